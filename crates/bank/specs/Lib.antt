@@ -1,0 +1,3 @@
+pub mod OrIdle
+pub mod Pair
+pub mod Half

@@ -1,0 +1,44 @@
+-- Every refusal's number, layer and place. Assumes nothing.
+use Prim.Native.Nat.{ℕ}
+use Rattle.fddevs.specs.declared.refusal.Layer.{Layer}
+use Rattle.fddevs.specs.declared.refusal.Layer.the-variants.{OutputList, Scheme, TimersAndPair, Wiring, Bars, Proof, BookAndPlayback}
+use Rattle.fddevs.specs.declared.refusal.Refusal.{Refusal}
+use Rattle.fddevs.specs.declared.refusal.Refusal.the-variants.{NotWhole, Version, SectionLength, PartCount, SectionCounts, SectionNames, TimerCount, TimerTime, PairCount}
+
+abbrev pub layer-number : Layer → ℕ
+layer-number OutputList = 1
+layer-number Scheme = 2
+layer-number TimersAndPair = 3
+layer-number Wiring = 4
+layer-number Bars = 5
+layer-number Proof = 6
+layer-number BookAndPlayback = 7
+
+pub record Told : Type 0 where
+  pub number : ℕ
+  pub layer : Layer
+  pub place : ℕ
+
+abbrev told : ℕ → Layer → ℕ → Told
+told n l p = record { number = n; layer = l; place = p }
+
+-- the one table of refusals
+abbrev pub table : Refusal → Told
+table (NotWhole l) = told 1 l 0
+table (Version l) = told 2 l 0
+table (SectionLength k) = told 3 Scheme k
+table PartCount = told 4 Scheme 0
+table (SectionCounts k) = told 4 Scheme k
+table (SectionNames k) = told 5 Scheme k
+table TimerCount = told 9 TimersAndPair 0
+table (TimerTime k) = told 9 TimersAndPair k
+table PairCount = told 10 TimersAndPair 0
+
+abbrev pub number-of : Refusal → ℕ
+number-of r = table r .number
+
+abbrev pub layer-of : Refusal → Layer
+layer-of r = table r .layer
+
+abbrev pub place-of : Refusal → ℕ
+place-of r = table r .place

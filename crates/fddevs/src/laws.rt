@@ -1,0 +1,13 @@
+// The laws of the formalism, each the contract of a function.
+ghost use Rattle.fddevs.specs.Laws.{Rows-agree, Delays-split};
+
+// A step is allowed in a state exactly when it is allowed in the state's row, and the row of the state it leads to
+// is the row that it leads to.
+pub fn rows_agree()
+    ensures { λ _. ⌜ Rows-agree ⌝ }
+{}
+
+// A delay of d ticks is d delays of one tick.
+pub fn delays_split()
+    ensures { λ _. ⌜ Delays-split ⌝ }
+{}

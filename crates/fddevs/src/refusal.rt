@@ -1,0 +1,96 @@
+// Why a file or a call is sent back.
+ghost use mathlib.Core.Path.{_≡_};
+ghost use Rattle.fddevs.specs.Refusals.{layer-number, number-of, layer-of, place-of};
+
+// What was being read or asked for when the refusal came.
+#[derive(Clone, Copy, PartialEq, Eq, Debug)]
+pub enum Layer {
+    OutputList,
+    Scheme,
+    TimersAndPair,
+    Wiring,
+    Bars,
+    Proof,
+    BookAndPlayback,
+}
+
+// A refusal. Each case has one number, one layer and one place: the first section, timer, wire, row or step at
+// fault, counted from 0, or 0 where the whole is at fault.
+#[derive(Clone, Copy, PartialEq, Eq, Debug)]
+pub enum Refusal {
+    // a file ends early or has bytes to spare
+    NotWhole(Layer),
+    // a file's version is not 01
+    Version(Layer),
+    // a section's length is not that of its phases and inputs
+    SectionLength(u8),
+    // a scheme of no parts or of more than 16
+    PartCount,
+    // a section with no phases, with more than 64, or with more than 16 inputs or outputs
+    SectionCounts(u8),
+    // a section with a start, next phase, output or mark that does not exist
+    SectionNames(u8),
+    // no timers, or more than 16
+    TimerCount,
+    // an operate or hold time beyond 65,534 ticks
+    TimerTime(u8),
+    // two banks of more than 16 parts together
+    PairCount,
+}
+
+impl Layer {
+    pub fn number(self) -> u8
+        ensures { λ r. ⌜ r ≡ layer-number self ⌝ }
+    {
+        match self {
+            Layer::OutputList => 1,
+            Layer::Scheme => 2,
+            Layer::TimersAndPair => 3,
+            Layer::Wiring => 4,
+            Layer::Bars => 5,
+            Layer::Proof => 6,
+            Layer::BookAndPlayback => 7,
+        }
+    }
+}
+
+impl Refusal {
+    pub fn number(self) -> u8
+        ensures { λ r. ⌜ r ≡ number-of self ⌝ }
+    {
+        match self {
+            Refusal::NotWhole(_) => 1,
+            Refusal::Version(_) => 2,
+            Refusal::SectionLength(_) => 3,
+            Refusal::PartCount | Refusal::SectionCounts(_) => 4,
+            Refusal::SectionNames(_) => 5,
+            Refusal::TimerCount | Refusal::TimerTime(_) => 9,
+            Refusal::PairCount => 10,
+        }
+    }
+
+    pub fn layer(self) -> Layer
+        ensures { λ r. ⌜ r ≡ layer-of self ⌝ }
+    {
+        match self {
+            Refusal::NotWhole(layer) | Refusal::Version(layer) => layer,
+            Refusal::SectionLength(_) | Refusal::PartCount => Layer::Scheme,
+            Refusal::SectionCounts(_) | Refusal::SectionNames(_) => Layer::Scheme,
+            Refusal::TimerCount | Refusal::TimerTime(_) | Refusal::PairCount =>
+                Layer::TimersAndPair,
+        }
+    }
+
+    pub fn place(self) -> usize
+        ensures { λ r. ⌜ r ≡ place-of self ⌝ }
+    {
+        match self {
+            Refusal::SectionLength(section) => usize::from(section),
+            Refusal::SectionCounts(section) => usize::from(section),
+            Refusal::SectionNames(section) => usize::from(section),
+            Refusal::TimerTime(timer) => usize::from(timer),
+            Refusal::NotWhole(_) | Refusal::Version(_) => 0,
+            Refusal::PartCount | Refusal::TimerCount | Refusal::PairCount => 0,
+        }
+    }
+}
