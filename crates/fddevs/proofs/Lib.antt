@@ -2,3 +2,4 @@ pub mod Cells
 pub mod Steps
 pub mod Delays
 pub mod Vetting
+pub mod Queries

@@ -1,7 +1,7 @@
 -- What is known of a file that was vetted, and that its parts are within the limits.
 use Prim.Native.Nat.{ℕ, _+_, _≤_, _<_}
 use mathlib.Core.Path.{_≡_, refl}
-use mathlib.Core.Bool.{Bool, true, false}
+use mathlib.Core.Bool.{true}
 use mathlib.Core.List.{List}
 use lib.Dec.{eqb, leb, ltb}
 use lib.ListN.{length, getD}
@@ -10,13 +10,14 @@ use Rattle.std.specs.Results.{isOk}
 use Rattle.std.specs.declared.option.Option.{Option}
 use Rattle.std.specs.declared.option.Option.the-variants.{Some, None}
 use Rattle.std.proofs.shelf.Tests.{and-parts, eqb-true, leb-true, ltb-true, cond-both}
-use Rattle.fddevs.specs.Machine.{Machine, Short, Exists, CountsWithin, PhaseWithin, PartWithin, WithinLimits, when}
+use Rattle.fddevs.specs.Machine.{Machine, Short, Exists, CountsWithin, PhaseWithin, PartWithin, WithinLimits}
 use Rattle.fddevs.specs.Vetting.{unless}
 use Rattle.fddevs.specs.declared.part.Output.{Output}
 use Rattle.fddevs.specs.declared.part.Output.the-variants.{Silent, Sends}
 use Rattle.fddevs.specs.declared.part.Span.the-variants.{Ticks, Unlimited}
 use Rattle.fddevs.specs.declared.refusal.Layer.the-variants.{Scheme}
 use Rattle.fddevs.specs.declared.refusal.Refusal.the-variants.{NotWhole, Version, PartCount}
+use Rattle.fddevs.proofs.Queries.{when-some}
 use Rattle.fddevs.proofs.Vetting.{then-ok, found-none, tested, none-first, true-below, strides}
 use Rattle.scheme_file.specs.Bank.{section-in}
 use Rattle.scheme_file.specs.File.{two-at, head, part-count, phase-of, section-at, record-at, record-of, record-size, lifespan-of, section-machine, file-family}
@@ -107,10 +108,6 @@ part-within f x w e =
 pub file-within : (f : List ℕ) → Sound f → WithinLimits (file-family f)
 file-within f ok =
     record { some = ok .some; few = ok .few; part = λ p h. part-within f (section-at f p) (ok .fit p h) (ok .exist p h) }
-
-when-some : {A : Type 0} (b : Bool) (x y : A) → Some x ≡ when b y → (b ≡ true) × (x ≡ y)
-when-some true x y e = (refl, cc)
-when-some false x y e = let w : _≡_ {A = ℕ} 0 1 = cc in absurd (omega arith)
 
 -- the record of a phase, of a section that a look-up gave
 pub found-record : (f : List ℕ) (p s : ℕ) (x : Section) → Sound f → Some x ≡ section-in f p → s < x .counts .phases →

@@ -1,0 +1,3 @@
+// One part of a bank, followed step by step.
+pub mod moves;
+pub mod steps;
