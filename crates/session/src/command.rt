@@ -1,0 +1,67 @@
+use fddevs::part::PartMove;
+use std::alloc::AllocError;
+use std::alloc::Refused;
+use std::fmt;
+use timers::setting::Setting;
+
+// Where a file comes from: a path, or bytes that stand in the line.
+#[derive(Drop)]
+pub enum Source {
+    Path(String),
+    Bytes(Vec<u8>),
+}
+
+// A line of a session.
+#[derive(Drop)]
+pub enum Command {
+    // a timer bank
+    Timers(Vec<Setting>),
+    // a table bank
+    Scheme(Source),
+    // every part as a table
+    Sheet,
+    // one part, step by step
+    Follow(u8, Vec<PartMove>),
+}
+
+// What a malformed line should have had.
+#[derive(Clone, Copy, PartialEq, Eq, Debug)]
+pub enum Malformed {
+    Command,
+    NothingMore,
+    Setting,
+    Source,
+    HexPair,
+    Part,
+    Move,
+    // no memory was left to read the line
+    Memory,
+}
+
+impl fmt::Display for Malformed as MalformedDisplay {
+    fn fmt<W: fmt::Write>(&self, f: &mut fmt::Formatter<W>) -> fmt::Result {
+        let text = match self {
+            Malformed::Command => "expected a command: timers, scheme, sheet or follow",
+            Malformed::NothingMore => "expected nothing more on this line",
+            Malformed::Setting => "expected timer settings OPERATE/HOLD in decimal, as 20/5",
+            Malformed::Source => "expected the path of a file, or hex and byte pairs",
+            Malformed::HexPair => "expected pairs of hexadecimal digits, as 01 FF",
+            Malformed::Part => "expected a part number, from 0 to 255, and a colon",
+            Malformed::Move => "expected moves separated by commas: input K, delay D or inner",
+            Malformed::Memory => "out of memory",
+        };
+        f.write_str(text)
+    }
+}
+
+pub impl From<AllocError> for Malformed as MalformedFromAlloc {
+    fn from(_e: AllocError) -> Malformed {
+        Malformed::Memory
+    }
+}
+
+pub impl<T: Drop> From<Refused<T>> for Malformed as MalformedFromRefused {
+    fn from(_e: Refused<T>) -> Malformed {
+        Malformed::Memory
+    }
+}
