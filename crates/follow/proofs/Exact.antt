@@ -10,7 +10,7 @@ use Rattle.std.specs.declared.option.Option.the-variants.{Some, None}
 use Rattle.std.specs.declared.result.Result.{Result}
 use Rattle.std.specs.declared.result.Result.the-variants.{Ok, Err}
 use Rattle.std.proofs.shelf.Tests.{and-parts, and-from, eqb-true, eq-eqb, leb-true, le-leb, ltb-true, lt-ltb, false≢true}
-use Rattle.fddevs.specs.Machine.{Machine, Family, WithinLimits, when, has-phase, external-at}
+use Rattle.fddevs.specs.Machine.{Machine, Family, WithinLimits, when, has-phase, lifespan-at, external-at}
 use Rattle.fddevs.specs.Part.{Within, Spent, PartStep, takes, expires, waits, fresh, led, after-input, after-internal, after-delay}
 use Rattle.fddevs.specs.declared.part.External.{External}
 use Rattle.fddevs.specs.declared.part.Mark.{Mark}
@@ -21,20 +21,19 @@ use Rattle.fddevs.specs.declared.part.PartState.{PartState}
 use Rattle.fddevs.specs.declared.part.Span.{Span}
 use Rattle.fddevs.specs.declared.part.Span.the-variants.{Ticks, Unlimited}
 use Rattle.fddevs.proofs.Queries.{external-asked}
-use Rattle.follow.specs.Follow.{spent, within, input-in, internal-in, after-delay-in, moved}
+use Rattle.follow.specs.Follow.{spent, within, after-delay-in, moved}
 use Rattle.follow.specs.Laws.{FollowsExactly}
 use Rattle.follow.specs.declared.moves.Stuck.{Stuck}
 use Rattle.follow.specs.declared.moves.Stuck.the-variants.{NotAllowed, TooLong}
 
--- a restart enters the phase that the bank names
-pub restarted : (F : Family) → WithinLimits F → (p i : ℕ) (c : PartState) (x : External) →
-    Some x ≡ external-at F p (c .phase) i → x .mark ≡ Restart →
-    when (has-phase F p (x .next)) (fresh (F .part p) (x .next)) ≡ input-in F p c i
-restarted F w p i c x e m =
-    let a = external-asked F w p (c .phase) i x e in
-    let mark : F .part p .external (c .phase) i .mark ≡ Restart = sym (ap (λ (y : External). y .mark) (a .same)) ∙ m in
-    let next : x .next ≡ F .part p .external (c .phase) i .next = ap (λ (y : External). y .next) (a .same) in
-    rw (a .leads, a .has-it, a .has-input, mark, next)
+-- the phase that a bank names has a lifespan
+pub lasts : (F : Family) → WithinLimits F → (p s i : ℕ) (x : External) → Some x ≡ external-at F p s i →
+    None ≡ lifespan-at F p (x .next) → ⊥
+lasts F w p s i x e n =
+    let a = external-asked F w p s i x e in
+    let n′ = rw (a .leads) at n in
+    let z : _≡_ {A = ℕ} 0 1 = cc in
+    omega arith
 
 within-true : (l : Span) (e : ℕ) → within l e ≡ true → Within l e
 within-true (Ticks l) e h = leb-true e l h

@@ -13,6 +13,7 @@ use Rattle.fddevs.specs.declared.part.PartMove.the-variants.{Input, Internal, D
 use Rattle.fddevs.specs.declared.part.PartState.{PartState}
 use Rattle.fddevs.specs.declared.part.Span.{Span}
 use Rattle.fddevs.specs.declared.part.Span.the-variants.{Ticks, Unlimited}
+use Rattle.follow.specs.declared.moves.Arrival.{Arrival}
 use Rattle.follow.specs.declared.moves.Stuck.{Stuck}
 use Rattle.follow.specs.declared.moves.Stuck.the-variants.{NotAllowed, TooLong}
 
@@ -24,6 +25,12 @@ spent Unlimited e = false
 abbrev pub within : Span → ℕ → Bool
 within (Ticks l) e = leb e l
 within Unlimited e = true
+
+-- where input i leads in phase s, and the lifespan there
+abbrev pub arrival-in : Family → ℕ → ℕ → ℕ → Option Arrival
+arrival-in F p s i =
+    when (has-phase F p s && ltb i (F .part p .counts .inputs))
+    (record { external = F .part p .external s i; lifespan = F .part p .lifespan (F .part p .external s i .next) })
 
 -- part p in state c takes input i, if it has that input
 abbrev pub input-in : Family → ℕ → PartState → ℕ → Option PartState

@@ -2,8 +2,9 @@ ghost use mathlib.Core.Path.{_≡_};
 ghost use lib.Dec.{ltb};
 ghost use Rattle.fddevs.specs.Machine.{when, has-phase};
 ghost use Rattle.fddevs.specs.Part.{begin, fresh, remaining};
-ghost use Rattle.follow.specs.Follow.{spent, within, after-delay-in, input-in, internal-in, moved};
+ghost use Rattle.follow.specs.Follow.{spent, within, after-delay-in, arrival-in, input-in, internal-in, moved};
 ghost use Rattle.follow.specs.Laws.{FollowsExactly};
+use crate::moves::Arrival;
 use crate::moves::Stuck;
 use bank::interface::Bank;
 use fddevs::part::Mark;
@@ -44,16 +45,23 @@ fn is_within(span: Span, elapsed: u128) -> bool
     }
 }
 
+// A phase from the beginning of a lifespan.
+fn fresh(phase: u8, lifespan: Span) -> PartState
+    ensures { λ r. ⌜ r ≡ record { phase = phase; lifespan = lifespan; elapsed = 0 } ⌝ }
+{
+    PartState {
+        phase,
+        lifespan,
+        elapsed: 0,
+    }
+}
+
 // A phase with its own lifespan, from the beginning.
 fn enter<B: Bank>(bank: &B, part: u8, phase: u8) -> Option<PartState>
     ensures { λ r. ⌜ r ≡ when (has-phase (family (now (bank .entry))) part phase) (fresh (family (now (bank .entry)) .part part) phase) ⌝ }
 {
     let lifespan = bank.lifespan(part, phase)?;
-    Some(PartState {
-        phase,
-        lifespan,
-        elapsed: 0,
-    })
+    Some(fresh(phase, lifespan))
 }
 
 // The state in which a part begins.
@@ -64,16 +72,24 @@ pub fn begin<B: Bank>(bank: &B, part: u8) -> Option<PartState>
     enter(bank, part, phase)
 }
 
+// Where an input leads, with the lifespan of the phase that it leads to.
+fn arrival<B: Bank>(bank: &B, part: u8, phase: u8, input: u8) -> Option<Arrival>
+    ensures { λ r. ⌜ r ≡ arrival-in (family (now (bank .entry))) part phase input ⌝ }
+{
+    let external = bank.external(part, phase, input)?;
+    let lifespan = bank.lifespan(part, external.next)?;
+    Some(Arrival { external, lifespan })
+}
+
 fn take_input<B: Bank>(bank: &B, part: u8, state: PartState, input: u8) -> Option<PartState>
     ensures { λ r. ⌜ r ≡ input-in (family (now (bank .entry))) part state input ⌝ }
 {
-    let external = bank.external(part, state.phase, input)?;
+    let Arrival { external, lifespan } = arrival(bank, part, state.phase, input)?;
     match external.mark {
-        Mark::Restart => enter(bank, part, external.next),
+        Mark::Restart => Some(fresh(external.next, lifespan)),
         Mark::Keep => Some(PartState {
             phase: external.next,
-            lifespan: state.lifespan,
-            elapsed: state.elapsed,
+            ..state
         }),
     }
 }
@@ -98,11 +114,7 @@ fn take_delay(state: PartState, ticks: u32) -> Result<PartState, Stuck>
         return Err(Stuck::NotAllowed);
     }
     match state.elapsed.checked_add(u64::from(ticks)) {
-        Some(elapsed) => Ok(PartState {
-            phase: state.phase,
-            lifespan: state.lifespan,
-            elapsed,
-        }),
+        Some(elapsed) => Ok(PartState { elapsed, ..state }),
         None => Err(Stuck::TooLong),
     }
 }

@@ -1,7 +1,6 @@
 use fddevs::part::PartMove;
 use std::alloc::AllocError;
 use std::alloc::Refused;
-use std::fmt;
 use timers::setting::Setting;
 
 // Where a file comes from: a path, or bytes that stand in the line.
@@ -34,13 +33,18 @@ pub enum Malformed {
     HexPair,
     Part,
     Move,
+    // a second timer bank or a second table bank
+    OneOfEach,
+    // a bank's line behind a line that asks something of the bank
+    BankFirst,
     // no memory was left to read the line
     Memory,
 }
 
-impl fmt::Display for Malformed as MalformedDisplay {
-    fn fmt<W: fmt::Write>(&self, f: &mut fmt::Formatter<W>) -> fmt::Result {
-        let text = match self {
+impl Malformed {
+    // What was expected, in plain words.
+    pub fn expected(self) -> &'static str {
+        match self {
             Malformed::Command => "expected a command: timers, scheme, sheet or follow",
             Malformed::NothingMore => "expected nothing more on this line",
             Malformed::Setting => "expected timer settings OPERATE/HOLD in decimal, as 20/5",
@@ -48,9 +52,10 @@ impl fmt::Display for Malformed as MalformedDisplay {
             Malformed::HexPair => "expected pairs of hexadecimal digits, as 01 FF",
             Malformed::Part => "expected a part number, from 0 to 255, and a colon",
             Malformed::Move => "expected moves separated by commas: input K, delay D or inner",
+            Malformed::OneOfEach => "expected at most one timers line and one scheme line",
+            Malformed::BankFirst => "expected the timers and scheme lines before all others",
             Malformed::Memory => "out of memory",
-        };
-        f.write_str(text)
+        }
     }
 }
 

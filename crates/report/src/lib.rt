@@ -1,0 +1,4 @@
+// What a session prints for people: refusals in plain words, the sheet of a bank, a part followed.
+pub mod sheet;
+pub mod trace;
+pub mod words;
