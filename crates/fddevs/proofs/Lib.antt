@@ -3,3 +3,4 @@ pub mod Steps
 pub mod Delays
 pub mod Vetting
 pub mod Queries
+pub mod Cases

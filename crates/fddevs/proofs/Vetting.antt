@@ -13,7 +13,8 @@ use Rattle.std.specs.declared.result.Result.the-variants.{Ok, Err}
 use Rattle.std.proofs.shelf.Tests.{cases-bool, both-ways, cases-lt, false≢true}
 use Rattle.std.proofs.shelf.Ways.{decides-below-and}
 use Rattle.fddevs.specs.declared.refusal.Refusal.{Refusal}
-use Rattle.fddevs.specs.Vetting.{Vetted, then, unless, seek, found, all-below}
+use Rattle.fddevs.specs.Refusals.{number-of, place-of}
+use Rattle.fddevs.specs.Vetting.{Vetted, then, unless, seek, found, all-below, NotAfter, Tells}
 
 eq-or-less : (a b : ℕ) → a ≤ b → (a ≡ b) ⊎ (a < b)
 eq-or-less a b h = ⊎-elim inr (λ g. inl (omega arith)) (cases-lt a b)
@@ -75,6 +76,95 @@ found-none refusal (Some k) e = absurd (false≢true e)
 pub tested : (b : Bool) (refusal : Refusal) → isOk (unless b refusal) ≡ true → b ≡ true
 tested true refusal e = refl
 tested false refusal e = absurd (false≢true e)
+
+-- A vetting tells of its faults: of one test, of the first place that fails a test, of one finding after another.
+pub tells-unless : (b : Bool) (e : Refusal) → Tells (λ o. (b ≡ false) × (o ≡ e)) (unless b e)
+tells-unless true e =
+    record { accepts = λ _ o h. false≢true (sym (h .0)); refuses = λ o h. let z : _≡_ {A = ℕ} 0 1 = cc in absurd (omega arith) }
+tells-unless false e = record {
+  accepts = λ h. let z : _≡_ {A = ℕ} 0 1 = cc in absurd (omega arith);
+  refuses = λ o h.
+      let same : o ≡ e = cc in (
+        (refl, same),
+        λ q k.
+            let other : q ≡ o = k .1 ∙ sym same in
+            rw other (record { smallest = le-refl _; earliest = λ _. le-refl _ }),
+      );
+}
+
+-- a refusal of one number, whose place is the place at fault
+pub record Placed (refusal : ℕ → Refusal) : Type 0 where
+  pub number : (j k : ℕ) → number-of (refusal j) ≡ number-of (refusal k)
+  pub place : (k : ℕ) → place-of (refusal k) ≡ k
+
+pub record FaultAt (t : ℕ → Bool) (n : ℕ) (refusal : ℕ → Refusal) (o : Refusal) : Type 0 where
+  pub at-place : ℕ
+  pub below : at-place < n
+  pub fails : t at-place ≡ false
+  pub same : o ≡ refusal at-place
+
+module _ (t : ℕ → Bool) (refusal : ℕ → Refusal) (p : Placed refusal) where
+  seek-first : (n a k : ℕ) → seek t a n ≡ Some k → (a ≤ k) × (k < a + n) × (t k ≡ false) × ((j : ℕ) → a ≤ j → t j ≡ false → k ≤ j)
+  seek-first zero a k e = let z : _≡_ {A = ℕ} 0 1 = cc in absurd (omega arith)
+  seek-first (suc n) a k e =
+      ⊎-elim
+      (λ y.
+      let r = seek-first n (a + 1) k (rw y at e) in (
+        omega (arith, r .0),
+        omega (arith, r .1),
+        r .2,
+        λ j h f.
+            ⊎-elim (λ s. absurd (both-ways (t j) f (sym (ap t s) ∙ y))) (λ l. r .3 j (omega arith) f) (eq-or-less a j h),
+      ))
+      (λ y.
+      let here = rw y at e in
+      let s : a ≡ k = cc in
+      rw (← s) (le-refl a, omega arith, y, λ j h f. h))
+      (cases-bool (t a))
+
+  pub tells-found : (n : ℕ) → Tells (FaultAt t n refusal) (found refusal (seek t 0 n))
+  tells-found n = go (seek t 0 n) refl
+    where
+      go : (o : Option ℕ) → seek t 0 n ≡ o → Tells (FaultAt t n refusal) (found refusal o)
+      go None e = record {
+        accepts = λ _ o h. both-ways (t (h .at-place)) (h .fails) (none-first t n e (h .at-place) (h .below));
+        refuses = λ o h. let z : _≡_ {A = ℕ} 0 1 = cc in absurd (omega arith);
+      }
+      go (Some k) e =
+          let r = seek-first n 0 k e in
+          record {
+            accepts = λ h. let z : _≡_ {A = ℕ} 0 1 = cc in absurd (omega arith);
+            refuses = λ o h.
+                let same : o ≡ refusal k = cc in (
+                  record { at-place = k; below = omega (arith, r .1); fails = r .2; same = same },
+                  λ q f. rw (same, f .same) (record {
+                    smallest = rw (p .number k (f .at-place)) (le-refl _);
+                    earliest = λ _. rw (p .place k, p .place (f .at-place)) (r .3 (f .at-place) (omega arith) (f .fails));
+                  }),
+                );
+          }
+
+pub tells-then : (P Q : Refusal → Type 0) (v w : Vetted) → Tells P v → Tells Q w →
+    ((e o : Refusal) → P e → Q o → NotAfter e o) → Tells (λ o. P o ⊎ Q o) (then v w)
+tells-then P Q (Ok tt) w p q order = record {
+  accepts = λ h o. ⊎-elim (p .accepts refl o) (q .accepts h o);
+  refuses = λ e h.
+      let r = q .refuses e h in
+      (inr (r .0), λ o. ⊎-elim (λ f. absurd (p .accepts refl o f)) (r .1 o));
+}
+tells-then P Q (Err x) w p q order = record {
+  accepts = λ h. let z : _≡_ {A = ℕ} 0 1 = cc in absurd (omega arith);
+  refuses = λ e h.
+      let r = p .refuses e h in
+      (inl (r .0), λ o. ⊎-elim (r .1 o) (order e o (r .0)));
+}
+
+-- the same faults under other names
+pub tells-as : (P Q : Refusal → Type 0) (v : Vetted) → ((o : Refusal) → P o → Q o) → ((o : Refusal) → Q o → P o) → Tells P v → Tells Q v
+tells-as P Q v there back p = record {
+  accepts = λ h o f. p .accepts h o (back o f);
+  refuses = λ e h. let r = p .refuses e h in (there e (r .0), λ o f. r .1 o (back o f));
+}
 
 -- s records of w bytes, and one more, lie among n
 pub strides : (w s n : ℕ) → s < n → s * w + w ≤ n * w

@@ -1,11 +1,13 @@
 -- How files and settings are vetted: one finding for each number, the smallest number first. Assumes nothing.
-use Prim.Native.Nat.{ℕ, zero, suc, _+_}
+use Prim.Native.Nat.{ℕ, zero, suc, _+_, _≤_}
+use mathlib.Core.Path.{_≡_}
 use mathlib.Core.Bool.{Bool, true, cond, _&&_}
 use Rattle.std.specs.declared.option.Option.{Option}
 use Rattle.std.specs.declared.option.Option.the-variants.{Some, None}
 use Rattle.std.specs.declared.result.Result.{Result}
 use Rattle.std.specs.declared.result.Result.the-variants.{Ok, Err}
 use Rattle.fddevs.specs.declared.refusal.Refusal.{Refusal}
+use Rattle.fddevs.specs.Refusals.{number-of, place-of}
 
 abbrev pub Vetted : Type 0
 Vetted = Result (Unit {0}) Refusal
@@ -33,3 +35,14 @@ found refusal (Some k) = Err (refusal k)
 abbrev pub all-below : (ℕ → Bool) → ℕ → Bool
 all-below t zero = true
 all-below t (suc n) = t n && all-below t n
+
+-- e does not come after o: it has a smaller number, or the same number and no later place
+pub record NotAfter (e o : Refusal) : Type 0 where
+  pub smallest : number-of e ≤ number-of o
+  pub earliest : number-of o ≡ number-of e → place-of e ≤ place-of o
+
+-- A vetting tells of the faults there are: it accepts where there is none, and else refuses for one that has the smallest
+-- number, and of that number the first place.
+pub record Tells (Fault : Refusal → Type 0) (v : Vetted) : Type 0 where
+  pub accepts : v ≡ Ok tt → (o : Refusal) → Fault o → ⊥
+  pub refuses : (e : Refusal) → v ≡ Err e → Fault e × ((o : Refusal) → Fault o → NotAfter e o)

@@ -1,3 +1,4 @@
 pub mod Heads
 pub mod Sound
 pub mod Sections
+pub mod Told

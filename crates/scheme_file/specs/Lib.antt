@@ -1,3 +1,4 @@
 pub mod File
 pub mod Vetting
+pub mod Faults
 pub mod Bank

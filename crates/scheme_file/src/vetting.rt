@@ -2,9 +2,10 @@ ghost use mathlib.Core.Path.{_≡_};
 ghost use mathlib.Core.Bool.{true};
 ghost use Prim.Native.Nat.{_+_, _*_, _≤_};
 ghost use lib.ListN.{length};
-ghost use Rattle.fddevs.specs.Vetting.{unless};
+ghost use Rattle.fddevs.specs.Vetting.{unless, Tells};
 ghost use Rattle.fddevs.specs.declared.refusal.Layer.the-variants.{Scheme};
 ghost use Rattle.fddevs.specs.declared.refusal.Refusal.the-variants.{Version, PartCount};
+ghost use Rattle.scheme_file.specs.Faults.{Fault};
 ghost use Rattle.scheme_file.specs.File.{two-at, record-at, record-size};
 ghost use Rattle.scheme_file.specs.Vetting.{whole, version-fits, count-fits, right-length, counts-fit, phase-exists, external-exists, record-exists, section-exists, passes, refusal, sections-pass, Measured, Ready, vetting};
 use crate::records::phase;
@@ -170,9 +171,7 @@ fn check_sections(file: &[u8], test: Test) -> Result<(), Refusal>
     Ok(())
 }
 
-// Whether the file is a scheme. The refusal has the smallest number that holds anywhere in the file, and the first
-// section at fault.
-pub fn vet(file: &[u8]) -> Result<(), Refusal>
+fn check_all(file: &[u8]) -> Result<(), Refusal>
     ensures { λ r. ⌜ r ≡ vetting (now (file .entry)) ⌝ }
 {
     if !is_whole(file) {
@@ -183,4 +182,13 @@ pub fn vet(file: &[u8]) -> Result<(), Refusal>
     check_count(file)?;
     check_sections(file, Test::Limits)?;
     check_sections(file, Test::Names)
+}
+
+// Whether the file is a scheme. The refusal has the smallest number of all the faults in the file, and the first
+// section at fault.
+pub fn vet(file: &[u8]) -> Result<(), Refusal>
+    ensures answer { λ r. ⌜ r ≡ vetting (now (file .entry)) ⌝ }
+    ensures tells { λ r. ⌜ Tells (Fault (now (file .entry))) r ⌝ }
+{
+    check_all(file)
 }
