@@ -1,3 +1,8 @@
+ghost use mathlib.Core.Path.{_≡_};
+ghost use Rattle.std.specs.Options.{orOther};
+ghost use Rattle.std.specs.Vec.{made};
+ghost use Rattle.std.specs.declared.option.Option.the-variants.{Some};
+ghost use Rattle.report.specs.Followed.{told, stuck-in};
 use crate::words::At;
 use crate::words::AtDisplay;
 use crate::words::Sent;
@@ -22,7 +27,7 @@ pub struct Followed {
 }
 
 // The line of a move that was made.
-fn made<B: Bank>(
+fn made_line<B: Bank>(
     heap: Global,
     bank: &B,
     part: u8,
@@ -41,12 +46,19 @@ fn made<B: Bank>(
     }
 }
 
-fn refused(heap: Global, a: PartMove, stuck: Stuck) -> Result<String, AllocError> {
+fn stuck_line(heap: Global, a: PartMove, stuck: Stuck) -> Result<String, AllocError> {
     let a_text = Step(a);
     match stuck {
         Stuck::NotAllowed => format!(heap, "  {a_text}: not allowed\n"),
         Stuck::TooLong => format!(heap, "  {a_text}: more ticks than can be counted\n"),
     }
+}
+
+// The first move that was not made, where move k is the latest.
+fn earlier(stuck: Option<usize>, k: usize) -> Option<usize>
+    ensures { λ r. ⌜ r ≡ orOther stuck (Some k) ⌝ }
+{
+    stuck.or(Some(k))
 }
 
 // Follows a part from its start; none where there is no such part. A move that is not allowed leaves the part as it is.
@@ -55,7 +67,9 @@ pub fn follow_part<B: Bank>(
     bank: &B,
     part: u8,
     moves: &[PartMove],
-) -> Result<Option<Followed>, AllocError> {
+) -> Result<Option<Followed>, AllocError>
+    ensures { λ r. ⌜ made r (λ o. told o ≡ stuck-in (family (now (bank .entry))) part (now (moves .entry))) ⌝ }
+{
     let Some(mut state) = begin(bank, part) else {
         return Ok(None);
     };
@@ -64,14 +78,14 @@ pub fn follow_part<B: Bank>(
     for (k, a) in moves.iter().enumerate() {
         match step(bank, part, state, *a) {
             Ok(next) => {
-                let line = made(heap, bank, part, state, *a, next)?;
+                let line = made_line(heap, bank, part, state, *a, next)?;
                 text.push_str(line.as_str())?;
                 state = next;
             }
             Err(why) => {
-                let line = refused(heap, *a, why)?;
+                let line = stuck_line(heap, *a, why)?;
                 text.push_str(line.as_str())?;
-                stuck = stuck.or(Some(k));
+                stuck = earlier(stuck, k);
             }
         }
     }
