@@ -1,0 +1,3 @@
+pub mod Orders
+pub mod Bisection
+pub mod Inserted
