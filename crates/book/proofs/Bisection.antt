@@ -23,7 +23,7 @@ module _ {K : Type 0} (cmp : K → K → Ordering) (x : K) (xs : List K) where
       by-order (cmp (getD xs (middle low high) x) x) (halving cmp x xs turns (middle low high + 1) high)
       (Ok (middle low high)) (halving cmp x xs turns low (middle low high))
 
-  halves : (turns low high : ℕ) → low < high → halving cmp x xs (suc turns) low high ≡ turn turns low high
+  pub halves : (turns low high : ℕ) → low < high → halving cmp x xs (suc turns) low high ≡ turn turns low high
   halves turns low high h = ap (λ b. cond b (turn turns low high) (Err low)) (lt-ltb low high h)
 
   pub met : (turns low high : ℕ) → high ≤ low → halving cmp x xs turns low high ≡ Err low

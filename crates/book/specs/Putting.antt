@@ -22,11 +22,11 @@ abbrev pub Answer : Type 0
 Answer = Result Put Refusal
 
 -- by the place that was found, and whether an entry is free
-abbrev answer-at : Result ℕ ℕ → Bool → Answer
+abbrev pub answer-at : Result ℕ ℕ → Bool → Answer
 answer-at (Ok at) free = Ok Present
 answer-at (Err at) free = cond free (Ok Added) (Err NoRoom)
 
-abbrev list-at : {K : Type 0} → K → List K → ℕ → Result ℕ ℕ → Bool → List K
+abbrev pub list-at : {K : Type 0} → K → List K → ℕ → Result ℕ ℕ → Bool → List K
 list-at x xs n (Ok at) free = xs
 list-at x xs n (Err at) free = cond free (inserted (take n xs) at x ++ drop (n + 1) xs) xs
 
@@ -42,10 +42,16 @@ count-after (Ok Added) n = n + 1
 count-after (Ok Present) n = n
 count-after (Err e) n = n
 
--- What an answer r, a list ys and a count m are to be, after x was put among the n records of xs: x is present exactly
--- where it is one of them, and refused exactly where it is not and no entry is free. The records then are those that
--- were and, where it was added, x; they ascend, and the entries beyond them stay.
-pub record PutRight {K : Type 0} (cmp : K → K → Ordering) (x : K) (xs : List K) (n : ℕ) (r : Answer) (ys : List K) (m : ℕ) : Type 0 where
+-- The answer r, the list ys and the count m are those of x put into the list xs of n records.
+pub record Puts {K : Type 0} (cmp : K → K → Ordering) (x : K) (xs : List K) (n : ℕ) (r : Answer) (ys : List K) (m : ℕ) : Type 0 where
+  pub answered : r ≡ answer cmp x xs n
+  pub listed : ys ≡ list-after cmp x xs n
+  pub counted : m ≡ count-after r n
+
+-- What they are to be where the records ascend. The record is present exactly where it is one of them, and refused
+-- exactly where it is not and no entry is free. The records then are those that were and, where it was added, the
+-- new one; they ascend, and the entries beyond them stay.
+pub record PutsRight {K : Type 0} (cmp : K → K → Ordering) (x : K) (xs : List K) (n : ℕ) (r : Answer) (ys : List K) (m : ℕ) : Type 0 where
   pub present : (r ≡ Ok Present) ↔ Has (take n xs) x
   pub refused : (r ≡ Err NoRoom) ↔ ((Has (take n xs) x → ⊥) × (n ≡ length xs))
   pub records : (y : K) → Has (take m ys) y ↔ (Has (take n xs) y ⊎ ((r ≡ Ok Added) × (y ≡ x)))

@@ -7,7 +7,7 @@ ghost use Rattle.std.specs.Holes.{inserted};
 ghost use Rattle.std.specs.Results.{Cases};
 ghost use Rattle.book.specs.Order.{Kept};
 ghost use Rattle.book.specs.Place.{place};
-ghost use Rattle.book.specs.Putting.{answer, list-after, count-after, PutRight};
+ghost use Rattle.book.specs.Putting.{answer, list-after, Puts, PutsRight};
 use crate::record::Record;
 use fddevs::refusal::Refusal;
 use std::cmp::Ordering;
@@ -76,16 +76,15 @@ impl<'a, T: Record> Book<'a, T> {
     pub fn new(list: &'a mut [T]) -> Self
         ensures list { λ r. ⌜ now (r .list) ≡ now (list .entry) ⌝ }
         ensures count { λ r. ⌜ r .count ≡ 0 ⌝ }
+        ensures kept { λ r. ⌜ Kept order (now (r .list)) (r .count) ⌝ }
         ensures names { λ r. ⌜ name (r .list) ≡ name (list .entry) ⌝ }
     {
         Book { list, count: 0 }
     }
 
-    // Puts a record in its place. A refusal leaves the book as it was.
-    pub fn put(&mut self, item: T) -> Result<Put, Refusal>
-        ensures answer { λ r. ⌜ r ≡ answer order item (now (now (self .entry) .list)) (now (self .entry) .count) ⌝ }
-        ensures list { λ _. ⌜ now (now (self .exit) .list) ≡ list-after order item (now (now (self .entry) .list)) (now (self .entry) .count) ⌝ }
-        ensures count { λ r. ⌜ now (self .exit) .count ≡ count-after r (now (self .entry) .count) ⌝ }
+    // Puts a record in its place and counts it.
+    fn add(&mut self, item: T) -> Result<Put, Refusal>
+        ensures puts { λ r. ⌜ Puts order item (now (now (self .entry) .list)) (now (self .entry) .count) r (now (now (self .exit) .list)) (now (self .exit) .count) ⌝ }
         ensures names { λ _. ⌜ name (now (self .exit) .list) ≡ name (now (self .entry) .list) ⌝ }
     {
         let count = self.count;
@@ -94,6 +93,15 @@ impl<'a, T: Record> Book<'a, T> {
             self.count = count + 1;
         }
         answer
+    }
+
+    // Puts a record in its place, once. A refusal leaves the book as it was.
+    pub fn put(&mut self, item: T) -> Result<Put, Refusal>
+        ensures puts { λ r. ⌜ Puts order item (now (now (self .entry) .list)) (now (self .entry) .count) r (now (now (self .exit) .list)) (now (self .exit) .count) ⌝ }
+        ensures right { λ r. ⌜ (Kept order (now (now (self .entry) .list)) (now (self .entry) .count) → PutsRight order item (now (now (self .entry) .list)) (now (self .entry) .count) r (now (now (self .exit) .list)) (now (self .exit) .count)) ⌝ }
+        ensures names { λ _. ⌜ name (now (self .exit) .list) ≡ name (now (self .entry) .list) ⌝ }
+    {
+        self.add(item)
     }
 
     // The list again, and the count of its records.

@@ -1,4 +1,5 @@
-ghost use Rattle.book.specs.Records.{row-order};
+ghost use mathlib.Core.Path.{_≡_};
+ghost use Rattle.book.specs.Records.{byte-order, row-order};
 use crate::record::Record;
 use std::cmp::Ordering;
 
@@ -8,11 +9,18 @@ pub struct Row {
     pub bytes: [u8; 48],
 }
 
+// Bytes by the first that differs, and else by their number.
+pub fn compare_bytes(one: &[u8], other: &[u8]) -> Ordering
+    ensures { λ r. ⌜ r ≡ byte-order (now (one .entry)) (now (other .entry)) ⌝ }
+{
+    one.cmp(&other)
+}
+
 // Rows are ordered as bytes.
 pub impl Record for Row as RowRecord {
     ghost order = { row-order };
 
     fn compare(&self, other: &Row) -> Ordering {
-        self.bytes.cmp(&other.bytes)
+        compare_bytes(&self.bytes, &other.bytes)
     }
 }
