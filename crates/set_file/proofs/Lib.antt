@@ -1,0 +1,4 @@
+pub mod Seeking
+pub mod Rows
+pub mod Vetted
+pub mod Written
