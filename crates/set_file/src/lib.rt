@@ -2,4 +2,6 @@
 mod layout;
 pub mod reader;
 pub mod reading;
+#[cfg(test)]
+mod tests;
 pub mod writing;
