@@ -1,9 +1,11 @@
 // Reading a set file: it is vetted once, and then hands out its rows.
 ghost use mathlib.Core.Path.{_≡_};
 ghost use Prim.Native.Nat.{_+_, _*_, _<_, _≤_};
+ghost use lib.Dec.{ltb};
 ghost use lib.ListN.{length, drop};
 ghost use Rattle.std.specs.Options.{mapped};
 ghost use Rattle.std.specs.Finite.{nth};
+ghost use Rattle.fddevs.specs.Machine.{when};
 ghost use Rattle.set_file.specs.Layout.{stretch, row-count};
 ghost use Rattle.set_file.specs.Reading.{head-vetting, climbs, order-vetting, read-set};
 ghost use Rattle.set_file.specs.Held.{held, held-by};
@@ -109,14 +111,21 @@ impl<'a> SetReader<'a> {
         Ok(reader)
     }
 
-    // Row k as bytes, or none where there is no such row.
-    pub fn row(&self, k: usize) -> Option<&'a [u8]>
-        ensures { λ r. ⌜ mapped now r ≡ nth (held (now (self .entry))) k ⌝ }
+    // The bytes of row k, if there is such a row.
+    fn find(&self, k: usize) -> Option<&'a [u8]>
+        ensures { λ r. ⌜ mapped now r ≡ when (ltb k (row-count (now (self .entry) .width) (now (now (self .entry) .body)))) (stretch (now (self .entry) .width) (now (now (self .entry) .body)) k) ⌝ }
     {
         if k < self.count() {
             Some(self.stretch(k))
         } else {
             None
         }
+    }
+
+    // Row k as bytes, or none where there is no such row.
+    pub fn row(&self, k: usize) -> Option<&'a [u8]>
+        ensures { λ r. ⌜ mapped now r ≡ nth (held (now (self .entry))) k ⌝ }
+    {
+        self.find(k)
     }
 }
