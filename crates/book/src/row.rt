@@ -1,4 +1,5 @@
 ghost use mathlib.Core.Path.{_≡_};
+ghost use Rattle.std.specs.Orderings.{isLt};
 ghost use Rattle.book.specs.Records.{byte-order, row-order};
 use crate::record::Record;
 use std::cmp::Ordering;
@@ -10,10 +11,20 @@ pub struct Row {
 }
 
 // Bytes by the first that differs, and else by their number.
-pub fn compare_bytes(one: &[u8], other: &[u8]) -> Ordering
+fn compare_bytes(one: &[u8], other: &[u8]) -> Ordering
     ensures { λ r. ⌜ r ≡ byte-order (now (one .entry)) (now (other .entry)) ⌝ }
 {
     one.cmp(&other)
+}
+
+// Whether bytes stand strictly below others.
+pub fn below(one: &[u8], other: &[u8]) -> bool
+    ensures { λ r. ⌜ r ≡ isLt (byte-order (now (one .entry)) (now (other .entry))) ⌝ }
+{
+    match compare_bytes(one, other) {
+        Ordering::Less => true,
+        Ordering::Equal | Ordering::Greater => false,
+    }
 }
 
 // Rows are ordered as bytes.

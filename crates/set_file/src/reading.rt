@@ -15,10 +15,9 @@ use crate::layout::body_fits;
 use crate::layout::some_parts;
 use crate::layout::width;
 use crate::reader::SetReader;
-use book::row::compare_bytes;
+use book::row::below;
 use fddevs::refusal::Layer;
 use fddevs::refusal::Refusal;
-use std::cmp::Ordering;
 
 // Whether the head of a file says what a set of rows of n parts has.
 fn vet_head(n: u8, file: &[u8]) -> Result<(), Refusal>
@@ -80,10 +79,7 @@ impl<'a> SetReader<'a> {
         requires { ⌜ 1 ≤ k ⌝ ∗ ⌜ k < row-count (now self .width) (now (now self .body)) ⌝ }
         ensures { λ r. ⌜ r ≡ climbs (now (self .entry) .width) (now (now (self .entry) .body)) k ⌝ }
     {
-        match compare_bytes(self.stretch(k - 1), self.stretch(k)) {
-            Ordering::Less => true,
-            Ordering::Equal | Ordering::Greater => false,
-        }
+        below(self.stretch(k - 1), self.stretch(k))
     }
 
     // Whether the rows ascend strictly.

@@ -13,12 +13,10 @@ use crate::layout::VERSION;
 use crate::layout::body_fits;
 use crate::layout::some_parts;
 use crate::layout::width;
-use book::record::Record;
 use book::row::Row;
-use book::row::RowRecord;
+use book::row::below;
 use fddevs::refusal::Layer;
 use fddevs::refusal::Refusal;
-use std::cmp::Ordering;
 
 // Whether an output of `size` bytes has room for a file of `count` rows.
 fn has_room(width: usize, count: usize, size: usize) -> bool
@@ -71,10 +69,7 @@ fn rises(rows: &[Row], k: usize) -> bool
     requires { ⌜ 1 ≤ k ⌝ ∗ ⌜ k < length (now rows) ⌝ }
     ensures { λ r. ⌜ r ≡ rises (now (rows .entry)) k ⌝ }
 {
-    match rows[k - 1].compare(&rows[k]) {
-        Ordering::Less => true,
-        Ordering::Equal | Ordering::Greater => false,
-    }
+    below(&rows[k - 1].bytes, &rows[k].bytes)
 }
 
 // Whether no row has a byte beyond its first `width` that is not 0.
