@@ -87,10 +87,10 @@ impl<'a, T: Record> Book<'a, T> {
         ensures puts { λ r. ⌜ Puts order item (now (now (self .entry) .list)) (now (self .entry) .count) r (now (now (self .exit) .list)) (now (self .exit) .count) ⌝ }
         ensures names { λ _. ⌜ name (now (self .exit) .list) ≡ name (now (self .entry) .list) ⌝ }
     {
-        let count = self.count;
-        let answer = put_in(self.list, count, item);
+        let Book { list, count } = self;
+        let answer = put_in(list, *count, item);
         if let Ok(Put::Added) = answer {
-            self.count = count + 1;
+            *count += 1;
         }
         answer
     }
@@ -102,6 +102,13 @@ impl<'a, T: Record> Book<'a, T> {
         ensures names { λ _. ⌜ name (now (self .exit) .list) ≡ name (now (self .entry) .list) ⌝ }
     {
         self.add(item)
+    }
+
+    // How many records are kept.
+    pub fn count(&self) -> usize
+        ensures { λ r. ⌜ r ≡ now (self .entry) .count ⌝ }
+    {
+        self.count
     }
 
     // The list again, and the count of its records.

@@ -63,9 +63,7 @@ fn stimuli_are_kept_in_order() -> Result<(), Fail> {
     check_eq(put(&mut book, stimulus(5, 0, 0)), Ok(Put::Added))?;
     check_eq(put(&mut book, stimulus(2, 6, 9)), Err(Refusal::NoRoom))?;
     check_eq(put(&mut book, stimulus(2, 7, 0)), Ok(Put::Present))?;
-    let (list, count) = book.into_parts();
-    check_eq(count, 3)?;
-    check(list.len() == 3)?;
+    check_eq(book.count(), 3)?;
     check_eq(list[0], stimulus(2, 7, 0))?;
     check_eq(list[1], stimulus(5, 0, 0))?;
     check_eq(list[2], stimulus(5, 0, 1))
