@@ -1,5 +1,5 @@
 -- Rows whose bytes beyond the first w are 0 are ordered as their first w bytes.
-use mathlib.Core.Path.{_≡_, refl, sym, ap, subst, _∙_}
+use mathlib.Core.Path.{_≡_, refl, sym, ap, _∙_}
 use mathlib.Core.Bool.{Bool, true, false, _&&_}
 use mathlib.Core.List.{List, [], _∷_}
 use Prim.Native.Nat.{ℕ, zero, suc}
@@ -9,7 +9,6 @@ use lib.ListN.{length, take, drop}
 use borrow.Author.Tests.{eqb-true}
 use Rattle.std.specs.Keys.{unsigned}
 use Rattle.std.specs.Orderings.{thenBy}
-use Rattle.std.specs.declared.cmp.Ordering.the-variants.{Equal}
 use Rattle.book.specs.Records.{byte-order}
 use Rattle.book.proofs.Orders.{bytes-total}
 use Rattle.set_file.specs.Writing.{zeros}

@@ -1,19 +1,18 @@
 -- What was written is read again.
-use mathlib.Core.Path.{_≡_, refl, sym, ap, subst, _∙_}
-use mathlib.Core.Bool.{Bool, true, cond, _&&_}
+use mathlib.Core.Path.{_≡_, refl, sym, ap, _∙_}
+use mathlib.Core.Bool.{true}
 use mathlib.Core.List.{List, _++_, map}
-use Prim.Native.Nat.{ℕ, _+_, _-_, _*_, _/_, _%_, _≤_, _<_}
+use Prim.Native.Nat.{ℕ, _-_, _*_, _%_, _≤_, _<_}
 use native.Mathlib.Nat.{mul-mod-left}
 use native.Mathlib.Omega.{arith}
-use lib.Dec.{eqb, leb}
-use lib.ListN.{length, getD, take, drop, length-append}
+use lib.Dec.{leb}
+use lib.ListN.{length, take, drop}
 use Rattle.std.specs.Joined.{joined}
 use Rattle.std.specs.Orderings.{isLt}
 use Rattle.std.specs.Vec.{made}
 use Rattle.std.specs.declared.result.Result.{Result}
 use Rattle.std.specs.declared.result.Result.the-variants.{Ok, Err}
 use Rattle.std.proofs.shelf.Lists.{take-at}
-use Rattle.std.proofs.shelf.Tests.{leb-true}
 use Rattle.std.proofs.shelf.Ways.{tells}
 use Rattle.fddevs.specs.declared.refusal.Layer.the-variants.{BookAndPlayback}
 use Rattle.fddevs.specs.declared.refusal.Refusal.{Refusal}
@@ -21,7 +20,7 @@ use Rattle.fddevs.specs.declared.refusal.Refusal.the-variants.{NoRoom, RowParts
 use Rattle.fddevs.specs.Vetting.{Vetted, then, unless, seek, found}
 use Rattle.book.specs.declared.row.Row.{Row}
 use Rattle.book.specs.Records.{byte-order}
-use Rattle.set_file.specs.Layout.{some-parts, width, body-fits, head, front, stretch, row-count, set-file, said-length}
+use Rattle.set_file.specs.Layout.{some-parts, width, body-fits, front, set-file, said-length}
 use Rattle.set_file.specs.Reading.{whole, head-vetting, climbs, order-vetting, rows-of, vetted, read-set}
 use Rattle.set_file.specs.Writing.{row-at, Whole, file-length, size-vetting, clean-at, bytes-vetting, rises, rows-vetting, write-vetting, written, or-else, left, ReadBack}
 use Rattle.set_file.proofs.Seeking.{seek-passed, seek-passes, then-passed, unless-passed}

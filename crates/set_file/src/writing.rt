@@ -1,13 +1,13 @@
 // Writing a set file.
 ghost use mathlib.Core.Path.{_≡_};
-ghost use Prim.Native.Nat.{ℕ, _+_, _*_, _<_, _≤_};
+ghost use Prim.Native.Nat.{_+_, _*_, _<_, _≤_};
 ghost use lib.Dec.{leb};
 ghost use lib.ListN.{length, take};
 ghost use lib.Seq.{paste};
 ghost use Rattle.std.specs.Vec.{made};
 ghost use Rattle.std.specs.Joined.{joined};
 ghost use Rattle.set_file.specs.Layout.{head, front};
-ghost use Rattle.set_file.specs.Writing.{row-at, Whole, size-vetting, zeros, clean, bytes-vetting, rises, rows-vetting, write-vetting, written, left, ReadBack};
+ghost use Rattle.set_file.specs.Writing.{Whole, size-vetting, zeros, clean, bytes-vetting, rises, rows-vetting, write-vetting, written, left, ReadBack};
 use crate::layout::KIND;
 use crate::layout::VERSION;
 use crate::layout::body_fits;

@@ -1,11 +1,6 @@
-use mathlib.Core.Path.{_≡_, ap, subst, _∙_}
-use mathlib.Core.List.{List}
-use Prim.Native.Nat.{ℕ}
+use mathlib.Core.Path.{ap, subst, _∙_}
 use lib.ListN.{length}
 use Rattle.std.specs.Vec.{made}
-use Rattle.std.specs.declared.result.Result.{Result}
-use Rattle.fddevs.specs.declared.refusal.Refusal.{Refusal}
-use Rattle.book.specs.declared.row.Row.{Row}
 use Rattle.set_file.specs.Writing.{Whole, written, left}
 use Rattle.set_file.proofs.RoundTrip.{read-back}
 use Rattle.set_file.proofs.writing.write.Needs as need

@@ -1,4 +1,3 @@
-use borrow.Author.Needs.{needs}
 use native.Mathlib.Omega.{arith}
 use native.Mathlib.Nat.{add-mul}
 use mathlib.Core.Path.{_≡_, sym, ap, _∙_}

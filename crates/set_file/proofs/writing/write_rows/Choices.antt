@@ -1,5 +1,5 @@
 use mathlib.Core.Path.{_≡_}
-use Prim.Native.Nat.{_+_, _*_, _≤_}
+use Prim.Native.Nat.{_+_, _*_}
 use lib.ListN.{length, take}
 use lib.Seq.{paste}
 use Rattle.std.specs.Joined.{joined}
