@@ -3,7 +3,7 @@ use Prim.Native.Nat.{ℕ}
 use Rattle.fddevs.specs.declared.refusal.Layer.{Layer}
 use Rattle.fddevs.specs.declared.refusal.Layer.the-variants.{OutputList, Scheme, TimersAndPair, Wiring, Bars, Proof, BookAndPlayback}
 use Rattle.fddevs.specs.declared.refusal.Refusal.{Refusal}
-use Rattle.fddevs.specs.declared.refusal.Refusal.the-variants.{NotWhole, Version, SectionLength, PartCount, SectionCounts, SectionNames, TimerCount, TimerTime, PairCount}
+use Rattle.fddevs.specs.declared.refusal.Refusal.the-variants.{NotWhole, Version, SectionLength, PartCount, SectionCounts, SectionNames, TimerCount, TimerTime, PairCount, NoRoom, Kind, Body, RowBytes, RowOrder, RowParts}
 
 abbrev pub layer-number : Layer → ℕ
 layer-number OutputList = 1
@@ -33,6 +33,12 @@ table (SectionNames k) = told 5 Scheme k
 table TimerCount = told 9 TimersAndPair 0
 table (TimerTime k) = told 9 TimersAndPair k
 table PairCount = told 10 TimersAndPair 0
+table NoRoom = told 14 OutputList 0
+table (Kind l) = told 17 l 0
+table (Body l) = told 18 l 0
+table (RowBytes k) = told 19 BookAndPlayback k
+table (RowOrder l k) = told 20 l k
+table RowParts = told 4 BookAndPlayback 0
 
 abbrev pub number-of : Refusal → ℕ
 number-of r = table r .number

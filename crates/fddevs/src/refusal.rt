@@ -36,6 +36,18 @@ pub enum Refusal {
     TimerTime(u8),
     // two banks of more than 16 parts together
     PairCount,
+    // no free entry for a new record, or an output too short for a file
+    NoRoom,
+    // a file's kind is not the one that is read
+    Kind(Layer),
+    // a body that is empty, too long or not whole rows
+    Body(Layer),
+    // a row with a byte beyond its parts that is not 0
+    RowBytes(usize),
+    // a row that is not above the one before it
+    RowOrder(Layer, usize),
+    // rows of no parts or of more than 16
+    RowParts,
 }
 
 impl Layer {
@@ -62,10 +74,15 @@ impl Refusal {
             Refusal::NotWhole(_) => 1,
             Refusal::Version(_) => 2,
             Refusal::SectionLength(_) => 3,
-            Refusal::PartCount | Refusal::SectionCounts(_) => 4,
+            Refusal::PartCount | Refusal::SectionCounts(_) | Refusal::RowParts => 4,
             Refusal::SectionNames(_) => 5,
             Refusal::TimerCount | Refusal::TimerTime(_) => 9,
             Refusal::PairCount => 10,
+            Refusal::NoRoom => 14,
+            Refusal::Kind(_) => 17,
+            Refusal::Body(_) => 18,
+            Refusal::RowBytes(_) => 19,
+            Refusal::RowOrder(_, _) => 20,
         }
     }
 
@@ -74,6 +91,9 @@ impl Refusal {
     {
         match self {
             Refusal::NotWhole(layer) | Refusal::Version(layer) => layer,
+            Refusal::Kind(layer) | Refusal::Body(layer) | Refusal::RowOrder(layer, _) => layer,
+            Refusal::NoRoom => Layer::OutputList,
+            Refusal::RowBytes(_) | Refusal::RowParts => Layer::BookAndPlayback,
             Refusal::SectionLength(_) | Refusal::PartCount => Layer::Scheme,
             Refusal::SectionCounts(_) | Refusal::SectionNames(_) => Layer::Scheme,
             Refusal::TimerCount | Refusal::TimerTime(_) | Refusal::PairCount =>
@@ -89,8 +109,10 @@ impl Refusal {
             Refusal::SectionCounts(section) => usize::from(section),
             Refusal::SectionNames(section) => usize::from(section),
             Refusal::TimerTime(timer) => usize::from(timer),
-            Refusal::NotWhole(_) | Refusal::Version(_) => 0,
+            Refusal::RowBytes(row) | Refusal::RowOrder(_, row) => row,
+            Refusal::NotWhole(_) | Refusal::Version(_) | Refusal::Kind(_) | Refusal::Body(_) => 0,
             Refusal::PartCount | Refusal::TimerCount | Refusal::PairCount => 0,
+            Refusal::NoRoom | Refusal::RowParts => 0,
         }
     }
 }

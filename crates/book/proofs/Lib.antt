@@ -1,0 +1,5 @@
+pub mod Orders
+pub mod Bisection
+pub mod Inserted
+pub mod Places
+pub mod Puts

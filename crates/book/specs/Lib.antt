@@ -1,0 +1,4 @@
+pub mod Order
+pub mod Records
+pub mod Place
+pub mod Putting
