@@ -80,6 +80,7 @@ fn malformed_lines_say_what_was_expected(rt: LibcRuntime) -> Result<(), Fail> {
     malformed(rt.alloc(), "timers 20/-5", Malformed::Setting)?;
     malformed(rt.alloc(), "scheme", Malformed::Source)?;
     malformed(rt.alloc(), "scheme hex 1 02", Malformed::HexPair)?;
+    malformed(rt.alloc(), "rows hex 01", Malformed::PartCount)?;
     malformed(rt.alloc(), "follow inner", Malformed::Part)?;
     malformed(rt.alloc(), "follow 256: inner", Malformed::Part)?;
     malformed(rt.alloc(), "follow 0: input", Malformed::Move)?;

@@ -4,11 +4,18 @@ use crate::failure::FailureFromAlloc;
 use crate::failure::FailureFromIo;
 use crate::line::Line;
 use bank::interface::Bank;
+use book::row::Row;
 use fddevs::part::PartMove;
+use report::rows::all_rows;
+use report::rows::write_again;
 use report::sheet::sheet;
 use report::trace::follow_part;
+use report::words::Refused;
+use report::words::RefusedDisplay;
 use session::command::Command;
 use session::command::Malformed;
+use session::command::Source;
+use set_file::reader::SetReader;
 
 fn print_sheet<B: Bank>(line: Line, bank: &B) -> Result<(), Failure> {
     let number = line.number;
@@ -39,10 +46,38 @@ fn print_follow<B: Bank>(
     Ok(())
 }
 
+// Prints the rows of a set file, keeps them in a book, and writes the set of the book again.
+fn print_rows(line: Line, n: u8, source: Source) -> Result<(), Failure> {
+    let heap = line.rt.alloc();
+    let number = line.number;
+    let file = line.bytes(source)?;
+    let set = match SetReader::read(n, &file) {
+        Ok(set) => set,
+        Err(refusal) => return line.print_vetted("rows", Err(refusal)),
+    };
+    let rows = all_rows(heap, &set, file.len())?;
+    let count = rows.records.len();
+    let text = rows.text;
+    println!(line.rt, "{number} rows: read {count}")?;
+    print!(line.rt, "{text}")?;
+    let mut list = vec![in heap; Row { bytes: [0; 48] }; count]?;
+    let mut out = vec![in heap; 0u8; file.len()]?;
+    match write_again(n, &rows.records, &mut list, &mut out) {
+        Ok(size) if out == file => println!(
+            line.rt,
+            "  written again from a book: {size} bytes, the same"
+        )?,
+        Ok(size) => println!(line.rt, "  written again from a book: {size} bytes, others")?,
+        Err(refusal) => println!(line.rt, "  not written again: {}", Refused(refusal))?,
+    }
+    Ok(())
+}
+
 fn run_call<B: Bank>(line: Line, bank: &B, command: Command) -> Result<(), Failure> {
     match command {
         Command::Sheet => print_sheet(line, bank),
         Command::Follow(part, moves) => print_follow(line, bank, part, &moves),
+        Command::Rows(n, source) => print_rows(line, n, source),
         Command::Timers(_) | Command::Scheme(_) => Err(line.malformed(Malformed::BankFirst)),
     }
 }

@@ -83,6 +83,23 @@ pub impl fmt::Display for Rule as RuleDisplay {
             Refusal::TimerCount => f.write_str("a timer bank has 1 to 16 timers"),
             Refusal::TimerTime(k) => write!(f, "timer {k}: a time is at most 65534 ticks"),
             Refusal::PairCount => f.write_str("two banks have at most 16 parts together"),
+            Refusal::NoRoom => f.write_str(
+                "no entry is free for a new record, or the output is too short",
+            ),
+            Refusal::Kind(layer) => {
+                let name = file_name(layer);
+                write!(f, "the kind of the {name} is not the one that is read")
+            }
+            Refusal::Body(layer) => {
+                let name = file_name(layer);
+                write!(
+                    f,
+                    "the body of the {name} is empty, not whole rows, or above 4194304 bytes"
+                )
+            }
+            Refusal::RowBytes(k) => write!(f, "row {k}: a byte beyond its parts is not 0"),
+            Refusal::RowOrder(_, k) => write!(f, "row {k}: it is not above the row before it"),
+            Refusal::RowParts => f.write_str("rows have 1 to 16 parts"),
         }
     }
 }

@@ -21,6 +21,8 @@ pub enum Command {
     Sheet,
     // one part, step by step
     Follow(u8, Vec<PartMove>),
+    // the rows of a set file for so many parts
+    Rows(u8, Source),
 }
 
 // What a malformed line should have had.
@@ -33,6 +35,7 @@ pub enum Malformed {
     HexPair,
     Part,
     Move,
+    PartCount,
     // a second timer bank or a second table bank
     OneOfEach,
     // a bank's line behind a line that asks something of the bank
@@ -45,13 +48,14 @@ impl Malformed {
     // What was expected, in plain words.
     pub fn expected(self) -> &'static str {
         match self {
-            Malformed::Command => "expected a command: timers, scheme, sheet or follow",
+            Malformed::Command => "expected a command: timers, scheme, sheet, follow or rows",
             Malformed::NothingMore => "expected nothing more on this line",
             Malformed::Setting => "expected timer settings OPERATE/HOLD in decimal, as 20/5",
             Malformed::Source => "expected the path of a file, or hex and byte pairs",
             Malformed::HexPair => "expected pairs of hexadecimal digits, as 01 FF",
             Malformed::Part => "expected a part number, from 0 to 255, and a colon",
             Malformed::Move => "expected moves separated by commas: input K, delay D or inner",
+            Malformed::PartCount => "expected a number of parts, from 0 to 255, and a set file",
             Malformed::OneOfEach => "expected at most one timers line and one scheme line",
             Malformed::BankFirst => "expected the timers and scheme lines before all others",
             Malformed::Memory => "out of memory",

@@ -96,6 +96,12 @@ fn follow(heap: Global, text: &str) -> Result<Command, Malformed> {
     Ok(Command::Follow(part, part_moves(heap, moves.trim())?))
 }
 
+fn rows(heap: Global, text: &str) -> Result<Command, Malformed> {
+    let (count, file) = first_word(text);
+    let count = decimal_u8(count).ok_or(Malformed::PartCount)?;
+    Ok(Command::Rows(count, source(heap, file)?))
+}
+
 fn alone(command: Command, rest: &str) -> Result<Command, Malformed> {
     if rest.is_empty() {
         Ok(command)
@@ -111,6 +117,7 @@ fn command(heap: Global, line: &str) -> Result<Command, Malformed> {
         "scheme" => Ok(Command::Scheme(source(heap, rest)?)),
         "sheet" => alone(Command::Sheet, rest),
         "follow" => follow(heap, rest),
+        "rows" => rows(heap, rest),
         _ => Err(Malformed::Command),
     }
 }
