@@ -14,6 +14,8 @@ use fddevs::refusal::Layer;
 use fddevs::refusal::Refusal;
 use fddevs::refusal::RefusalDebug;
 use fddevs::refusal::RefusalPartialEq;
+use std::alloc::AllocError;
+use std::alloc::Global;
 use std::test::*;
 
 fn stimulus(tick: u32, serial: u32, input: u8) -> Stimulus {
@@ -123,4 +125,51 @@ fn damaged_files_are_refused() -> Result<(), Fail> {
     check_eq(refused(1, &[1, 2, 0, 0, 0, 0]), Some(Refusal::Kind(layer)))?;
     let turned = [1, 1, 0, 0, 0, 6, 1, 0, 9, 1, 0, 2];
     check_eq(refused(1, &turned), Some(Refusal::RowOrder(layer, 1)))
+}
+
+#[test]
+fn an_empty_list_has_no_room() -> Result<(), Fail> {
+    let mut list: [Row; 0] = [];
+    let mut book = Book::new(&mut list);
+    check_eq(put_row(&mut book, row(0, 0, 0)), Err(Refusal::NoRoom))?;
+    check_eq(book.count(), 0)
+}
+
+#[test]
+fn rows_of_sixteen_parts_are_read_back() -> Result<(), Fail> {
+    let last = Row { bytes: [255; 48] };
+    let mut out = [7; 102];
+    check_eq(written(16, &[row(0, 1, 2), last], 2, &mut out), Ok(102))?;
+    let Ok(set) = SetReader::read(16, &out) else {
+        return Err(Fail::new("the file was refused"));
+    };
+    check(set.row(1) == Some(&[255; 48]))?;
+    check(set.row(2) == None)
+}
+
+// A set file for one part of so many rows, the rows of the numbers from 0.
+fn long_file(heap: Global, rows: u32) -> Result<Vec<u8>, AllocError> {
+    let mut file = Vec::new(heap);
+    let [a, b, c, d] = rows.wrapping_mul(3).to_be_bytes();
+    file.extend_from_slice(&[1, 1, a, b, c, d])?;
+    for k in 0..rows {
+        let [_, high, middle, low] = k.to_be_bytes();
+        file.extend_from_slice(&[high, middle, low])?;
+    }
+    Ok(file)
+}
+
+#[test]
+fn the_longest_body_is_read_and_one_row_more_is_not(rt: LibcRuntime) -> Result<(), Fail> {
+    let longest = long_file(rt.alloc(), 1_398_101)?;
+    let Ok(set) = SetReader::read(1, &longest) else {
+        return Err(Fail::new("the file was refused"));
+    };
+    check(set.row(1_398_100) == Some(&[21, 85, 84]))?;
+    check(set.row(1_398_101) == None)?;
+    let longer = long_file(rt.alloc(), 1_398_102)?;
+    check_eq(
+        refused(1, &longer),
+        Some(Refusal::Body(Layer::BookAndPlayback)),
+    )
 }
