@@ -1,3 +1,4 @@
 pub mod Cells
 pub mod Steps
 pub mod Delays
+pub mod Vetting
