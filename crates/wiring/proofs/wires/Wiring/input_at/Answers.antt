@@ -1,0 +1,10 @@
+use mathlib.Core.Path.{ap, _∙_}
+use Rattle.wiring.specs.Meaning.{wiring-of}
+use Rattle.wiring.specs.Wires.{input-to}
+use Rattle.wiring.proofs.Orders.{wired-from}
+use Rattle.wiring.proofs.wires.Wiring.input_at.Needs as need
+
+pub returns : need.returns
+returns c =
+    c .find-input .ensures ∙ ap (λ ws. input-to ws (c .args .target)) (c .from-source .ensures)
+    ∙ wired-from (c .args .source) (c .args .output) (c .args .target) (wiring-of (c .args .self .now) .wires)
