@@ -1,1 +1,3 @@
 pub mod Orders
+pub mod Apart
+pub mod Kept

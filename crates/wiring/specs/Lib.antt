@@ -1,2 +1,4 @@
 pub mod Wires
 pub mod Meaning
+pub mod File
+pub mod Reading
