@@ -1,3 +1,5 @@
 pub mod Orders
 pub mod Apart
 pub mod Kept
+pub mod Laid
+pub mod Accepted
