@@ -4,4 +4,6 @@ pub mod laws;
 pub mod lookup;
 pub mod reading;
 mod rule;
+#[cfg(test)]
+mod tests;
 pub mod wires;
