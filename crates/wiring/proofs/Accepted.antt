@@ -1,7 +1,7 @@
 -- Which files are accepted.
 use Prim.Native.Nat.{ℕ, zero, suc, _+_, _-_, _*_, _/_, _%_, _≤_, _<_}
 use mathlib.Core.Path.{_≡_, refl, sym, ap, _∙_, subst}
-use mathlib.Core.Bool.{true, _&&_, not}
+use mathlib.Core.Bool.{true, not}
 use mathlib.Core.List.{List}
 use lib.Dec.{eqb, leb}
 use lib.ListN.{length, getD}
@@ -13,21 +13,19 @@ use Rattle.std.specs.shelf.Lists.{All}
 use Rattle.std.proofs.shelf.Elements.{all-getD, all-from-getD}
 use Rattle.std.proofs.shelf.Tests.{and-parts, and-from, or-right, eqb-true, eq-eqb, leb-true, le-leb}
 use Rattle.std.proofs.shelf.Ways.{tells}
-use Rattle.fddevs.specs.declared.refusal.Layer.the-variants.{Wiring as in-wiring}
-use Rattle.fddevs.specs.declared.refusal.Refusal.the-variants.{NotWhole, Version, WiringCounts}
 use Rattle.fddevs.specs.declared.scheme.Wire.{Wire}
 use Rattle.fddevs.specs.Machine.{Family}
 use Rattle.fddevs.specs.Scheme.{Wiring}
-use Rattle.fddevs.specs.Vetting.{Vetted, then, unless, found}
-use Rattle.fddevs.proofs.Vetting.{below-true, true-below, first-none, then-ok, tested}
+use Rattle.fddevs.specs.Vetting.{Vetted, then, found}
+use Rattle.fddevs.proofs.Vetting.{below-true, true-below, then-ok}
 use Rattle.wiring.specs.File.{two-at, wire-count, held, is-whole, is-version-one, is-within}
 use Rattle.wiring.specs.Laws.{size, file-of, EndsExist, SameStart, KeepsWiringRules, Accepts-exactly}
 use Rattle.wiring.specs.Reading.{has-ends, keeps, breach, kept, head-vetting, wires-vetting, vetting, accepted, reading}
-use Rattle.wiring.specs.Wires.{bytes, before, no-wire, nth, same-start, in-order, is-apart}
+use Rattle.wiring.specs.Wires.{bytes, before, no-wire, nth, same-start}
 use Rattle.wiring.specs.declared.rule.Rule.{Rule}
 use Rattle.wiring.specs.declared.rule.Rule.the-variants.{Order, Apart, Names}
 use Rattle.wiring.proofs.Apart.{later}
-use Rattle.wiring.proofs.Kept.{kept-each, kept-ascends}
+use Rattle.wiring.proofs.Kept.{none-found, kept-each, head-passed, kept-ascends}
 use Rattle.wiring.proofs.Laid.{heads, laid-held, count-held, length-laid, laid-one}
 
 module _ (F : Family) (W : Wiring) (w : Wire) where
@@ -80,10 +78,7 @@ module _ (F : Family) (f : List ℕ) (small : All (λ b. b < 256) f) (ok : isOk 
   both = then-ok (head-vetting f) (wires-vetting F (held f)) ok
 
   its-head : (is-whole f ≡ true) × (is-version-one f ≡ true) × (is-within f ≡ true)
-  its-head =
-      let a = then-ok (unless (is-whole f) (NotWhole in-wiring)) _ (both .0) in
-      let b = then-ok (unless (is-version-one f) (Version in-wiring)) (unless (is-within f) WiringCounts) (a .1) in
-      (tested _ _ (a .0), tested _ _ (b .0), tested _ _ (b .1))
+  its-head = head-passed f (both .0)
 
   its-file : f ≡ file-of (held f)
   its-file =
@@ -114,10 +109,10 @@ module _ (F : Family) (f : List ℕ) (small : All (λ b. b < 256) f) (ok : isOk 
         ascending = λ j k h l. later ws (kept-ascends F (held f) (c .0)) k j h l;
         apart = λ j k h l.
             start-forth (nth ws j) (nth ws k)
-            (true-below (λ i. not (same-start (nth ws i) (nth ws k))) k (kept-each F (held f) Apart (d .0) k l) j h);
+            (true-below (λ i. not (same-start (nth ws i) (nth ws k))) k (kept-each Apart F (held f) (d .0) k l) j h);
         ends =
             all-from-getD (EndsExist F (held f)) ws no-wire
-            (λ k l. ends-forth F (held f) (nth ws k) (kept-each F (held f) Names (d .1) k l));
+            (λ k l. ends-forth F (held f) (nth ws k) (kept-each Names F (held f) (d .1) k l));
       }
 
 accepted-ok : (v : Vetted) (U W : Wiring) → accepted v U ≡ Ok W → (isOk v ≡ true) × (U ≡ W)
@@ -141,7 +136,7 @@ module _ (F : Family) (W : Wiring) (h : KeepsWiringRules F W) where
   every Names k l = ends-back F W _ (all-getD (EndsExist F W) (W .wires) k no-wire l (h .ends))
 
   all-kept : (r : Rule) → kept r F W ≡ Ok tt
-  all-kept r = ap (found (breach r)) (first-none (keeps r F W) (length (W .wires)) (every r))
+  all-kept r = ap (found (breach r)) (sym (none-found r F W (every r)))
 
   wires-pass : wires-vetting F W ≡ Ok tt
   wires-pass =

@@ -1,17 +1,15 @@
 -- The file of a wiring, and the wiring that it holds.
-use Prim.Native.Nat.{ℕ, zero, suc, _+_, _-_, _*_, _/_, _%_, _≤_, _<_}
+use Prim.Native.Nat.{ℕ, zero, suc, _+_, _*_, _≤_}
 use mathlib.Core.Path.{_≡_, refl, sym, ap, _∙_}
 use mathlib.Core.List.{List, [], _∷_, _++_, map}
 use lib.ListN.{length, getD, drop}
 use native.Mathlib.Omega.{arith}
-use native.Mathlib.Nat.{add-assoc}
 use Rattle.std.specs.Iters.{counting}
 use Rattle.std.proofs.shelf.Lists.{drop-more, drop-all}
 use Rattle.std.proofs.shelf.Counted.{length-map-counting}
 use Rattle.fddevs.specs.declared.scheme.Wire.{Wire}
-use Rattle.fddevs.specs.Scheme.{Wiring}
 use Rattle.wiring.specs.File.{wire-at, wire-count, held}
-use Rattle.wiring.specs.Laws.{laid, size, file-of}
+use Rattle.wiring.specs.Laws.{laid}
 use Rattle.wiring.specs.Wires.{bytes}
 
 module _ (f : List ℕ) where

@@ -3,3 +3,4 @@ pub mod Apart
 pub mod Kept
 pub mod Laid
 pub mod Accepted
+pub mod Refused

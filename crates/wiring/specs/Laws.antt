@@ -1,16 +1,22 @@
--- The rules of wirings, and which files are accepted, as statements.
+-- The rules of wirings, which files are accepted, and which refusal is given, as statements.
 use Prim.Native.Nat.{ℕ, _+_, _*_, _/_, _%_, _<_, _≤_}
 use mathlib.Core.Path.{_≡_}
-use mathlib.Core.Bool.{true}
+use mathlib.Core.Bool.{true, false}
 use mathlib.Core.List.{List, [], _∷_, _++_}
 use mathlib.Core.Logic.{_↔_}
 use lib.ListN.{length}
-use Rattle.std.specs.declared.result.Result.the-variants.{Ok}
+use Rattle.std.specs.declared.result.Result.the-variants.{Ok, Err}
 use Rattle.std.specs.shelf.Lists.{All}
+use Rattle.fddevs.specs.declared.refusal.Layer.the-variants.{Wiring as in-wiring}
+use Rattle.fddevs.specs.declared.refusal.Refusal.{Refusal}
+use Rattle.fddevs.specs.declared.refusal.Refusal.the-variants.{NotWhole, Version, WiringCounts}
 use Rattle.fddevs.specs.declared.scheme.Wire.{Wire}
 use Rattle.fddevs.specs.Machine.{Family}
 use Rattle.fddevs.specs.Scheme.{Wiring, outside}
-use Rattle.wiring.specs.Reading.{reading}
+use Rattle.fddevs.specs.Refusals.{number-of, place-of}
+use Rattle.wiring.specs.File.{held, is-whole, is-version-one, is-within}
+use Rattle.wiring.specs.Reading.{keeps, breach, reading}
+use Rattle.wiring.specs.declared.rule.Rule.{Rule}
 use Rattle.wiring.specs.Wires.{bytes, before, nth}
 
 -- the bytes of the wires, one after another
@@ -57,3 +63,20 @@ abbrev pub Accepts-exactly : Type 0
 Accepts-exactly =
     (F : Family) (f : List ℕ) (W : Wiring) → All (λ b. b < 256) f →
     (reading F f ≡ Ok W) ↔ ((f ≡ file-of W) × KeepsWiringRules F W)
+
+-- what is at fault in a file, and the refusal for it
+pub data Fault (F : Family) (f : List ℕ) : Refusal → Type 0 where
+  not-whole : is-whole f ≡ false → Fault F f (NotWhole in-wiring)
+  other-version : is-version-one f ≡ false → Fault F f (Version in-wiring)
+  beyond-limits : is-within f ≡ false → Fault F f WiringCounts
+  broken : (r : Rule) (k : ℕ) → k < length (held f .wires) → keeps r F (held f) k ≡ false → Fault F f (breach r k)
+
+-- no fault has a smaller number, or the same number and an earlier place
+pub record Smallest (F : Family) (f : List ℕ) (e : Refusal) : Type 0 where
+  pub fault : Fault F f e
+  pub smallest : (o : Refusal) → Fault F f o → number-of e ≤ number-of o
+  pub earliest : (o : Refusal) → Fault F f o → number-of o ≡ number-of e → place-of e ≤ place-of o
+
+-- A file that is refused is refused for the smallest of its faults.
+abbrev pub Refuses-smallest : Type 0
+Refuses-smallest = (F : Family) (f : List ℕ) (e : Refusal) → reading F f ≡ Err e → Smallest F f e

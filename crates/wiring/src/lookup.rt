@@ -53,6 +53,13 @@ fn find_input(wires: &[Wire], target: u8) -> Option<u8>
     None
 }
 
+fn find_wired(wires: &[Wire], source: u8, output: u8, target: u8) -> Option<u8>
+    requires { ⌜ ascends (now wires) ≡ true ⌝ }
+    ensures { λ r. ⌜ r ≡ wired (now (wires .entry)) source output target ⌝ }
+{
+    find_input(stretch(wires, source, output), target)
+}
+
 impl Wiring {
     // No wires, no outer inputs and no outer outputs.
     pub fn none() -> Wiring
@@ -103,6 +110,6 @@ impl Wiring {
     pub fn input_at(&self, source: u8, output: u8, target: u8) -> Option<u8>
         ensures { λ r. ⌜ r ≡ wired (wiring-of (now (self .entry)) .wires) source output target ⌝ }
     {
-        find_input(self.from_source(source, output), target)
+        find_wired(self.wires(), source, output, target)
     }
 }
