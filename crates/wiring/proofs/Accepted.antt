@@ -25,7 +25,7 @@ use Rattle.wiring.specs.Wires.{bytes, before, no-wire, nth, same-start}
 use Rattle.wiring.specs.declared.rule.Rule.{Rule}
 use Rattle.wiring.specs.declared.rule.Rule.the-variants.{Order, Apart, Names}
 use Rattle.wiring.proofs.Apart.{later}
-use Rattle.wiring.proofs.Kept.{none-found, kept-each, head-passed, kept-ascends}
+use Rattle.wiring.proofs.Kept.{none-found, kept-each, head-passed, vetted, vetted-ascends}
 use Rattle.wiring.proofs.Laid.{heads, laid-held, count-held, length-laid, laid-one}
 
 module _ (F : Family) (W : Wiring) (w : Wire) where
@@ -99,23 +99,22 @@ module _ (F : Family) (f : List ℕ) (small : All (λ b. b < 256) f) (ok : isOk 
   its-rules =
       let a = and-parts _ _ (its-head .2) in
       let b = and-parts _ _ (a .1) in
-      let c = then-ok (kept Order F (held f)) _ (both .1) in
-      let d = then-ok (kept Apart F (held f)) (kept Names F (held f)) (c .1) in
+      let ok = vetted F (held f) (both .1) in
       let ws = held f .wires in
       record {
         few-inputs = leb-true _ _ (a .0);
         few-outputs = leb-true _ _ (b .0);
         few-wires = omega (arith, count-held f, leb-true _ _ (b .1));
-        ascending = λ j k h l. later ws (kept-ascends F (held f) (c .0)) k j h l;
+        ascending = λ j k h l. later ws (vetted-ascends F (held f) (both .1)) k j h l;
         apart = λ j k h l.
             start-forth (nth ws j) (nth ws k)
-            (true-below (λ i. not (same-start (nth ws i) (nth ws k))) k (kept-each Apart F (held f) (d .0) k l) j h);
+            (true-below (λ i. not (same-start (nth ws i) (nth ws k))) k (kept-each Apart F (held f) (ok Apart) k l) j h);
         ends =
             all-from-getD (EndsExist F (held f)) ws no-wire
-            (λ k l. ends-forth F (held f) (nth ws k) (kept-each Names F (held f) (d .1) k l));
+            (λ k l. ends-forth F (held f) (nth ws k) (kept-each Names F (held f) (ok Names) k l));
       }
 
-accepted-ok : (v : Vetted) (U W : Wiring) → accepted v U ≡ Ok W → (isOk v ≡ true) × (U ≡ W)
+pub accepted-ok : (v : Vetted) (U W : Wiring) → accepted v U ≡ Ok W → (isOk v ≡ true) × (U ≡ W)
 accepted-ok (Ok x) U W e = (refl, cc)
 accepted-ok (Err x) U W e = let z : _≡_ {A = ℕ} 0 1 = cc in absurd (omega arith)
 

@@ -13,13 +13,13 @@ use Rattle.fddevs.specs.declared.refusal.Layer.the-variants.{Wiring as in-wirin
 use Rattle.fddevs.specs.declared.refusal.Refusal.the-variants.{NotWhole, Version, WiringCounts}
 use Rattle.fddevs.specs.Machine.{Family}
 use Rattle.fddevs.specs.Scheme.{Wiring}
-use Rattle.fddevs.specs.Vetting.{unless, seek}
+use Rattle.fddevs.specs.Vetting.{then, unless, seek}
 use Rattle.fddevs.proofs.Vetting.{none-first, first-some, first-none, below-true, found-none, then-ok, tested}
 use Rattle.wiring.specs.File.{is-whole, is-version-one, is-within}
 use Rattle.wiring.specs.Wires.{ascends, in-order}
 use Rattle.wiring.specs.Reading.{keeps, breach, kept, head-vetting, wires-vetting}
 use Rattle.wiring.specs.declared.rule.Rule.{Rule}
-use Rattle.wiring.specs.declared.rule.Rule.the-variants.{Order}
+use Rattle.wiring.specs.declared.rule.Rule.the-variants.{Order, Apart, Names}
 
 -- of the n numbers from a on, k is the first that fails the test
 pub record FirstAt (t : ℕ → Bool) (a n k : ℕ) : Type 0 where
@@ -75,5 +75,14 @@ module _ (F : Family) (W : Wiring) where
   pub kept-ascends : isOk (kept Order F W) ≡ true → ascends (W .wires) ≡ true
   kept-ascends e = below-true (in-order (W .wires)) (length (W .wires)) (kept-each Order F W e)
 
-  pub vetted-ascends : isOk (wires-vetting F W) ≡ true → ascends (W .wires) ≡ true
-  vetted-ascends e = kept-ascends (then-ok (kept Order F W) _ e .0)
+  module _ (ok : isOk (wires-vetting F W) ≡ true) where
+    after-order : isOk (then (kept Apart F W) (kept Names F W)) ≡ true
+    after-order = then-ok (kept Order F W) (then (kept Apart F W) (kept Names F W)) ok .1
+
+    pub vetted : (r : Rule) → isOk (kept r F W) ≡ true
+    vetted Order = then-ok (kept Order F W) _ ok .0
+    vetted Apart = then-ok (kept Apart F W) (kept Names F W) after-order .0
+    vetted Names = then-ok (kept Apart F W) (kept Names F W) after-order .1
+
+    pub vetted-ascends : ascends (W .wires) ≡ true
+    vetted-ascends = kept-ascends (vetted Order)

@@ -1,31 +1,33 @@
 -- Which refusal is given.
 use Prim.Native.Nat.{ℕ, _≤_, _<_}
 use mathlib.Core.Path.{_≡_, refl, sym, ap, _∙_, subst}
-use mathlib.Core.Bool.{Bool, true, false}
+use mathlib.Core.Bool.{Bool, true, false, cond}
 use mathlib.Core.List.{List}
 use mathlib.Core.Logic.{_⊎_, inl, inr, ⊎-elim}
-use lib.Dec.{lit≤}
+use lib.Dec.{eqb, lit≤}
 use lib.ListN.{length}
 use native.Mathlib.Omega.{arith}
 use Rattle.std.specs.Results.{isOk}
 use Rattle.std.specs.declared.option.Option.{Option}
 use Rattle.std.specs.declared.option.Option.the-variants.{Some, None}
+use Rattle.std.specs.declared.result.Result.{Result}
 use Rattle.std.specs.declared.result.Result.the-variants.{Ok, Err}
 use Rattle.std.proofs.shelf.Tests.{both-ways, cases-lt}
 use Rattle.fddevs.specs.declared.refusal.Layer.the-variants.{Wiring as in-wiring}
 use Rattle.fddevs.specs.declared.refusal.Refusal.{Refusal}
-use Rattle.fddevs.specs.declared.refusal.Refusal.the-variants.{NotWhole, Version, WiringCounts}
+use Rattle.fddevs.specs.declared.refusal.Refusal.the-variants.{NotWhole, Version, WiringCounts, WireOrder, WireTwice, WireNames}
 use Rattle.fddevs.specs.Machine.{Family}
 use Rattle.fddevs.specs.Refusals.{number-of, place-of}
 use Rattle.fddevs.specs.Scheme.{Wiring}
 use Rattle.fddevs.specs.Vetting.{Vetted, then, unless, seek, found}
-use Rattle.fddevs.proofs.Vetting.{tested}
+use Rattle.fddevs.proofs.Vetting.{then-ok, tested}
 use Rattle.wiring.specs.File.{held, is-whole, is-version-one, is-within}
 use Rattle.wiring.specs.Laws.{Fault, not-whole, other-version, beyond-limits, broken, Smallest, Refuses-smallest}
-use Rattle.wiring.specs.Reading.{keeps, breach, kept, head-vetting, wires-vetting, vetting, accepted}
+use Rattle.wiring.specs.Reading.{keeps, breach, kept, head-vetting, wires-vetting, vetting, accepted, reading}
 use Rattle.wiring.specs.declared.rule.Rule.{Rule}
 use Rattle.wiring.specs.declared.rule.Rule.the-variants.{Order, Apart, Names}
-use Rattle.wiring.proofs.Kept.{some-first, kept-each, head-passed}
+use Rattle.wiring.proofs.Accepted.{accepted-ok}
+use Rattle.wiring.proofs.Kept.{some-first, kept-each, head-passed, vetted}
 
 -- a refusal comes from the first finding, or from the second where the first found nothing
 then-err : (a b : Vetted) (e : Refusal) → then a b ≡ Err e → (a ≡ Err e) ⊎ ((isOk a ≡ true) × (b ≡ Err e))
@@ -192,7 +194,51 @@ module _ (F : Family) (f : List ℕ) where
         (then-err (kept Apart F (held f)) (kept Names F (held f)) e (a .1)))
         (then-err (kept Order F (held f)) _ e h)
 
-pub refuses-smallest : Refuses-smallest
-refuses-smallest F f e h =
+forth : (F : Family) (f : List ℕ) (e : Refusal) → reading F f ≡ Err e → Smallest F f e
+forth F f e h =
     ⊎-elim (from-head F f e) (λ a. from-wires F f (a .0) e (a .1))
     (then-err (head-vetting f) (wires-vetting F (held f)) e (accepted-err (vetting F f) (held f) e h))
+
+-- the refusal of a fault, by its number and its place
+abbrev named : ℕ → ℕ → Refusal
+named n k =
+    cond (eqb n 1) (NotWhole in-wiring)
+    (cond (eqb n 2) (Version in-wiring)
+    (cond (eqb n 4) WiringCounts (cond (eqb n 6) (WireOrder k) (cond (eqb n 7) (WireTwice k) (WireNames k)))))
+
+module _ (F : Family) (f : List ℕ) where
+  fault-named : (o : Refusal) → Fault F f o → o ≡ named (number-of o) (place-of o)
+  fault-named _ (not-whole h) = refl
+  fault-named _ (other-version h) = refl
+  fault-named _ (beyond-limits h) = refl
+  fault-named _ (broken Order k l h) = refl
+  fault-named _ (broken Apart k l h) = refl
+  fault-named _ (broken Names k l h) = refl
+
+  fault-few : (o : Refusal) → Fault F f o → number-of o ≤ 8
+  fault-few _ (not-whole h) = lit≤ tt
+  fault-few _ (other-version h) = lit≤ tt
+  fault-few _ (beyond-limits h) = lit≤ tt
+  fault-few _ (broken Order k l h) = lit≤ tt
+  fault-few _ (broken Apart k l h) = lit≤ tt
+  fault-few _ (broken Names k l h) = lit≤ tt
+
+  no-fault : isOk (vetting F f) ≡ true → (o : Refusal) → Fault F f o → ⊥
+  no-fault ok o h =
+      let a = then-ok (head-vetting f) (wires-vetting F (held f)) ok in
+      omega (arith, fault-few o h, at-least F f 9 (past-head F f (a .0) 9 (λ r _. kept-each r F (held f) (vetted F (held f) (a .1) r))) o h)
+
+  told : (r : Result Wiring Refusal) (e : Refusal) → reading F f ≡ r → Smallest F f e → r ≡ Err e
+  told (Ok W) e p s = absurd (no-fault (accepted-ok (vetting F f) (held f) W p .0) e (s .fault))
+  told (Err x) e p s =
+      let t = forth F f x p in
+      let a : number-of x ≡ number-of e =
+      omega (arith, t .smallest e (s .fault), s .smallest x (t .fault)) in
+      let b : place-of x ≡ place-of e =
+      omega (arith, t .earliest e (s .fault) (sym a), s .earliest x (t .fault) a) in
+      let c = fault-named x (t .fault) in
+      let d = fault-named e (s .fault) in
+      ap Err (c ∙ ap (λ n. named n (place-of x)) a ∙ ap (named (number-of e)) b ∙ sym d)
+
+pub refuses-smallest : Refuses-smallest
+refuses-smallest F f e = (forth F f e, told F f (reading F f) e refl)

@@ -77,6 +77,6 @@ pub record Smallest (F : Family) (f : List ℕ) (e : Refusal) : Type 0 where
   pub smallest : (o : Refusal) → Fault F f o → number-of e ≤ number-of o
   pub earliest : (o : Refusal) → Fault F f o → number-of o ≡ number-of e → place-of e ≤ place-of o
 
--- A file that is refused is refused for the smallest of its faults.
+-- A file is refused exactly for the smallest of its faults.
 abbrev pub Refuses-smallest : Type 0
-Refuses-smallest = (F : Family) (f : List ℕ) (e : Refusal) → reading F f ≡ Err e → Smallest F f e
+Refuses-smallest = (F : Family) (f : List ℕ) (e : Refusal) → (reading F f ≡ Err e) ↔ Smallest F f e

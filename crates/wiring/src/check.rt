@@ -4,7 +4,7 @@ ghost use mathlib.Core.Bool.{true};
 ghost use Prim.Native.Nat.{_<_, _≤_};
 ghost use lib.ListN.{length};
 ghost use Rattle.fddevs.specs.Vetting.{seek};
-ghost use Rattle.wiring.specs.File.{is-whole, is-within};
+ghost use Rattle.wiring.specs.File.{wire-count, is-whole, is-within};
 ghost use Rattle.wiring.specs.Wires.{bytes, before, same-start, in-order, is-apart, ascends, nth};
 ghost use Rattle.wiring.specs.Reading.{source-exists, target-exists, has-ends, keeps, breach, kept, head-vetting, wires-vetting, draft, Ready};
 use crate::rule::Rule;
@@ -24,11 +24,18 @@ fn is_whole(file: &[u8]) -> bool
     file.len() == 3 + rest && (file.len() - 5) % 4 == 0
 }
 
+pub(crate) fn wire_count(file: &[u8]) -> usize
+    requires { ⌜ 5 ≤ length (now file) ⌝ }
+    ensures { λ r. ⌜ r ≡ wire-count (now (file .entry)) ⌝ }
+{
+    (file.len() - 5) / 4
+}
+
 fn is_within(file: &[u8]) -> bool
     requires { ⌜ 5 ≤ length (now file) ⌝ }
     ensures { λ r. ⌜ r ≡ is-within (now (file .entry)) ⌝ }
 {
-    file[3] <= 32 && file[4] <= 32 && (file.len() - 5) / 4 <= 256
+    file[3] <= 32 && file[4] <= 32 && wire_count(file) <= 256
 }
 
 pub(crate) fn check_head(file: &[u8]) -> Result<(), Refusal>

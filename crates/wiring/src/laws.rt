@@ -6,7 +6,7 @@ pub fn accepts_exactly()
     ensures { λ _. ⌜ Accepts-exactly ⌝ }
 {}
 
-// A file that is refused is refused for the smallest of its faults, at its first place.
+// A file is refused exactly for the smallest of its faults, at its first place.
 pub fn refuses_smallest()
     ensures { λ _. ⌜ Refuses-smallest ⌝ }
 {}

@@ -1,8 +1,10 @@
+// The look-ups of a wiring.
 ghost use mathlib.Core.Path.{_≡_};
 ghost use mathlib.Core.Bool.{true};
 ghost use Rattle.fddevs.specs.Scheme.{wired};
 ghost use Rattle.wiring.specs.Meaning.{wiring-of, no-wiring};
 ghost use Rattle.wiring.specs.Wires.{ascends, comes-below, from-source, input-to, Splits};
+use crate::wires::NO_WIRE;
 use crate::wires::OuterCounts;
 use crate::wires::Wiring;
 use fddevs::scheme::Wire;
@@ -65,14 +67,8 @@ impl Wiring {
     pub fn none() -> Wiring
         ensures { λ r. ⌜ wiring-of r ≡ no-wiring ⌝ }
     {
-        let unused = Wire {
-            source: 0,
-            output: 0,
-            target: 0,
-            input: 0,
-        };
         Wiring {
-            table: [unused; 256],
+            table: [NO_WIRE; 256],
             count: 0,
             outer: OuterCounts {
                 inputs: 0,

@@ -6,6 +6,8 @@ ghost use Rattle.wiring.specs.File.{wire-at, wire-count, held};
 ghost use Rattle.wiring.specs.Reading.{meant, reading};
 use crate::check::check_head;
 use crate::check::check_wires;
+use crate::check::wire_count;
+use crate::wires::NO_WIRE;
 use crate::wires::OuterCounts;
 use crate::wires::Wiring;
 use bank::interface::Bank;
@@ -30,13 +32,8 @@ fn table(file: &[u8]) -> [Wire; 256]
     requires few { ⌜ wire-count (now file) ≤ 256 ⌝ }
     ensures { λ r. ⌜ take (wire-count (now (file .entry))) r ≡ held (now (file .entry)) .wires ⌝ }
 {
-    let mut table = [Wire {
-        source: 0,
-        output: 0,
-        target: 0,
-        input: 0,
-    }; 256];
-    for k in 0..(file.len() - 5) / 4 {
+    let mut table = [NO_WIRE; 256];
+    for k in 0..wire_count(file) {
         table[k] = wire(file, 5 + 4 * k);
     }
     table
@@ -52,7 +49,7 @@ pub fn read<B: Bank>(bank: &B, file: &[u8]) -> Result<Wiring, Refusal>
         outputs: file[4],
     };
     let table = table(file);
-    let count = (file.len() - 5) / 4;
+    let count = wire_count(file);
     check_wires(bank, outer, &table[..count])?;
     Ok(Wiring {
         table,

@@ -12,6 +12,14 @@ pub struct OuterCounts {
     pub outputs: u8,
 }
 
+// What the table holds past its wires.
+pub(crate) const NO_WIRE: Wire = Wire {
+    source: 0,
+    output: 0,
+    target: 0,
+    input: 0,
+};
+
 // The wires, in order, are the first `count` of the table.
 #[derive(Drop)]
 pub struct Wiring {

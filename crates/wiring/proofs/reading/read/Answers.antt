@@ -4,7 +4,7 @@ use lib.ListN.{take}
 use Rattle.std.specs.Results.{isOk}
 use Rattle.std.specs.declared.result.Result.the-variants.{Ok}
 use Rattle.fddevs.specs.Scheme.{Wiring}
-use Rattle.wiring.specs.File.{held, wire-count}
+use Rattle.wiring.specs.File.{held}
 use Rattle.wiring.specs.Reading.{wires-vetting}
 use Rattle.wiring.proofs.Kept.{vetted-ascends}
 use Rattle.wiring.proofs.reading.read.Needs as need
@@ -16,7 +16,7 @@ ghost-result g c =
     let W : Wiring = record {
       outer-inputs = held f .outer-inputs;
       outer-outputs = held f .outer-outputs;
-      wires = take (wire-count f) (c .table-table .result);
+      wires = take (c .wire-count-count .result) (c .table-table .result);
     } in
     let passed : wires-vetting F W ≡ Ok tt = search needs in
     (search needs, (search needs, (vetted-ascends F W (ap isOk passed), tt)))
