@@ -3,7 +3,7 @@ use Prim.Native.Nat.{ℕ}
 use Rattle.fddevs.specs.declared.refusal.Layer.{Layer}
 use Rattle.fddevs.specs.declared.refusal.Layer.the-variants.{OutputList, Scheme, TimersAndPair, Wiring, Bars, Proof, BookAndPlayback}
 use Rattle.fddevs.specs.declared.refusal.Refusal.{Refusal}
-use Rattle.fddevs.specs.declared.refusal.Refusal.the-variants.{NotWhole, Version, SectionLength, PartCount, SectionCounts, SectionNames, TimerCount, TimerTime, PairCount}
+use Rattle.fddevs.specs.declared.refusal.Refusal.the-variants.{NotWhole, Version, SectionLength, PartCount, SectionCounts, SectionNames, TimerCount, TimerTime, PairCount, WiringCounts, WireOrder, WireTwice, WireNames}
 
 abbrev pub layer-number : Layer → ℕ
 layer-number OutputList = 1
@@ -33,6 +33,10 @@ table (SectionNames k) = told 5 Scheme k
 table TimerCount = told 9 TimersAndPair 0
 table (TimerTime k) = told 9 TimersAndPair k
 table PairCount = told 10 TimersAndPair 0
+table WiringCounts = told 4 Wiring 0
+table (WireOrder k) = told 6 Wiring k
+table (WireTwice k) = told 7 Wiring k
+table (WireNames k) = told 8 Wiring k
 
 abbrev pub number-of : Refusal → ℕ
 number-of r = table r .number

@@ -36,6 +36,14 @@ pub enum Refusal {
     TimerTime(u8),
     // two banks of more than 16 parts together
     PairCount,
+    // more than 32 outer inputs or outer outputs, or more than 256 wires
+    WiringCounts,
+    // a wire that does not come after the one before it
+    WireOrder(usize),
+    // a wire that equals an earlier one in its first three bytes
+    WireTwice(usize),
+    // a wire with an end that does not exist, from a part to itself, or from outside to outside
+    WireNames(usize),
 }
 
 impl Layer {
@@ -62,8 +70,11 @@ impl Refusal {
             Refusal::NotWhole(_) => 1,
             Refusal::Version(_) => 2,
             Refusal::SectionLength(_) => 3,
-            Refusal::PartCount | Refusal::SectionCounts(_) => 4,
+            Refusal::PartCount | Refusal::SectionCounts(_) | Refusal::WiringCounts => 4,
             Refusal::SectionNames(_) => 5,
+            Refusal::WireOrder(_) => 6,
+            Refusal::WireTwice(_) => 7,
+            Refusal::WireNames(_) => 8,
             Refusal::TimerCount | Refusal::TimerTime(_) => 9,
             Refusal::PairCount => 10,
         }
@@ -78,6 +89,8 @@ impl Refusal {
             Refusal::SectionCounts(_) | Refusal::SectionNames(_) => Layer::Scheme,
             Refusal::TimerCount | Refusal::TimerTime(_) | Refusal::PairCount =>
                 Layer::TimersAndPair,
+            Refusal::WiringCounts | Refusal::WireOrder(_) => Layer::Wiring,
+            Refusal::WireTwice(_) | Refusal::WireNames(_) => Layer::Wiring,
         }
     }
 
@@ -89,8 +102,10 @@ impl Refusal {
             Refusal::SectionCounts(section) => usize::from(section),
             Refusal::SectionNames(section) => usize::from(section),
             Refusal::TimerTime(timer) => usize::from(timer),
+            Refusal::WireOrder(wire) | Refusal::WireTwice(wire) | Refusal::WireNames(wire) => wire,
             Refusal::NotWhole(_) | Refusal::Version(_) => 0,
             Refusal::PartCount | Refusal::TimerCount | Refusal::PairCount => 0,
+            Refusal::WiringCounts => 0,
         }
     }
 }
