@@ -3,7 +3,7 @@ use Prim.Native.Nat.{ℕ}
 use Rattle.fddevs.specs.declared.refusal.Layer.{Layer}
 use Rattle.fddevs.specs.declared.refusal.Layer.the-variants.{OutputList, Scheme, TimersAndPair, Wiring, Bars, Proof, BookAndPlayback}
 use Rattle.fddevs.specs.declared.refusal.Refusal.{Refusal}
-use Rattle.fddevs.specs.declared.refusal.Refusal.the-variants.{NotWhole, Version, SectionLength, PartCount, SectionCounts, SectionNames, TimerCount, TimerTime, PairCount, WiringCounts, WireOrder, WireTwice, WireNames}
+use Rattle.fddevs.specs.declared.refusal.Refusal.the-variants.{NotWhole, Version, SectionLength, PartCount, SectionCounts, SectionNames, TimerCount, TimerTime, PairCount, WiringCounts, WireOrder, WireTwice, WireNames, BarForm, BarStands, BarsFull}
 
 abbrev pub layer-number : Layer → ℕ
 layer-number OutputList = 1
@@ -37,6 +37,9 @@ table WiringCounts = told 4 Wiring 0
 table (WireOrder k) = told 6 Wiring k
 table (WireTwice k) = told 7 Wiring k
 table (WireNames k) = told 8 Wiring k
+table BarForm = told 11 Bars 0
+table BarStands = told 12 Bars 0
+table BarsFull = told 13 Bars 0
 
 abbrev pub number-of : Refusal → ℕ
 number-of r = table r .number

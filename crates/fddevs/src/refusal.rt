@@ -44,6 +44,12 @@ pub enum Refusal {
     WireTwice(usize),
     // a wire with an end that does not exist, from a part to itself, or from outside to outside
     WireNames(usize),
+    // a bar of no conditions or of more than four, out of order, or with a part or phase that does not exist
+    BarForm,
+    // a bar whose conditions are those of a bar that stands
+    BarStands,
+    // a seventeenth bar
+    BarsFull,
 }
 
 impl Layer {
@@ -77,6 +83,9 @@ impl Refusal {
             Refusal::WireNames(_) => 8,
             Refusal::TimerCount | Refusal::TimerTime(_) => 9,
             Refusal::PairCount => 10,
+            Refusal::BarForm => 11,
+            Refusal::BarStands => 12,
+            Refusal::BarsFull => 13,
         }
     }
 
@@ -91,6 +100,7 @@ impl Refusal {
                 Layer::TimersAndPair,
             Refusal::WiringCounts | Refusal::WireOrder(_) => Layer::Wiring,
             Refusal::WireTwice(_) | Refusal::WireNames(_) => Layer::Wiring,
+            Refusal::BarForm | Refusal::BarStands | Refusal::BarsFull => Layer::Bars,
         }
     }
 
@@ -106,6 +116,7 @@ impl Refusal {
             Refusal::NotWhole(_) | Refusal::Version(_) => 0,
             Refusal::PartCount | Refusal::TimerCount | Refusal::PairCount => 0,
             Refusal::WiringCounts => 0,
+            Refusal::BarForm | Refusal::BarStands | Refusal::BarsFull => 0,
         }
     }
 }
