@@ -3,7 +3,7 @@ use Prim.Native.Nat.{ℕ}
 use Rattle.fddevs.specs.declared.refusal.Layer.{Layer}
 use Rattle.fddevs.specs.declared.refusal.Layer.the-variants.{OutputList, Scheme, TimersAndPair, Wiring, Bars, Proof, BookAndPlayback}
 use Rattle.fddevs.specs.declared.refusal.Refusal.{Refusal}
-use Rattle.fddevs.specs.declared.refusal.Refusal.the-variants.{NotWhole, Version, SectionLength, PartCount, SectionCounts, SectionNames, TimerCount, TimerTime, PairCount, NoRoom, Kind, Body, RowBytes, RowOrder, RowParts}
+use Rattle.fddevs.specs.declared.refusal.Refusal.the-variants.{NotWhole, Version, SectionLength, PartCount, SectionCounts, SectionNames, WiringCounts, WireOrder, WireTwice, WireNames, TimerCount, TimerTime, PairCount, BarForm, BarStands, BarsFull, NoRoom, RowParts, Kind, Body, RowBytes, RowOrder}
 
 abbrev pub layer-number : Layer → ℕ
 layer-number OutputList = 1
@@ -29,16 +29,23 @@ table (Version l) = told 2 l 0
 table (SectionLength k) = told 3 Scheme k
 table PartCount = told 4 Scheme 0
 table (SectionCounts k) = told 4 Scheme k
+table WiringCounts = told 4 Wiring 0
+table RowParts = told 4 BookAndPlayback 0
 table (SectionNames k) = told 5 Scheme k
+table (WireOrder k) = told 6 Wiring k
+table (WireTwice k) = told 7 Wiring k
+table (WireNames k) = told 8 Wiring k
 table TimerCount = told 9 TimersAndPair 0
 table (TimerTime k) = told 9 TimersAndPair k
 table PairCount = told 10 TimersAndPair 0
+table BarForm = told 11 Bars 0
+table BarStands = told 12 Bars 0
+table BarsFull = told 13 Bars 0
 table NoRoom = told 14 OutputList 0
 table (Kind l) = told 17 l 0
 table (Body l) = told 18 l 0
 table (RowBytes k) = told 19 BookAndPlayback k
 table (RowOrder l k) = told 20 l k
-table RowParts = told 4 BookAndPlayback 0
 
 abbrev pub number-of : Refusal → ℕ
 number-of r = table r .number

@@ -36,6 +36,20 @@ pub enum Refusal {
     TimerTime(u8),
     // two banks of more than 16 parts together
     PairCount,
+    // more than 32 outer inputs or outer outputs, or more than 256 wires
+    WiringCounts,
+    // a wire that does not come after the one before it
+    WireOrder(usize),
+    // a wire that equals an earlier one in its first three bytes
+    WireTwice(usize),
+    // a wire with an end that does not exist, from a part to itself, or from outside to outside
+    WireNames(usize),
+    // a bar of no conditions or of more than four, out of order, or with a part or phase that does not exist
+    BarForm,
+    // a bar whose conditions are those of a bar that stands
+    BarStands,
+    // a seventeenth bar
+    BarsFull,
     // no free entry for a new record, or an output too short for a file
     NoRoom,
     // a file's kind is not the one that is read
@@ -74,10 +88,17 @@ impl Refusal {
             Refusal::NotWhole(_) => 1,
             Refusal::Version(_) => 2,
             Refusal::SectionLength(_) => 3,
-            Refusal::PartCount | Refusal::SectionCounts(_) | Refusal::RowParts => 4,
+            Refusal::PartCount | Refusal::SectionCounts(_) => 4,
+            Refusal::WiringCounts | Refusal::RowParts => 4,
             Refusal::SectionNames(_) => 5,
+            Refusal::WireOrder(_) => 6,
+            Refusal::WireTwice(_) => 7,
+            Refusal::WireNames(_) => 8,
             Refusal::TimerCount | Refusal::TimerTime(_) => 9,
             Refusal::PairCount => 10,
+            Refusal::BarForm => 11,
+            Refusal::BarStands => 12,
+            Refusal::BarsFull => 13,
             Refusal::NoRoom => 14,
             Refusal::Kind(_) => 17,
             Refusal::Body(_) => 18,
@@ -98,6 +119,9 @@ impl Refusal {
             Refusal::SectionCounts(_) | Refusal::SectionNames(_) => Layer::Scheme,
             Refusal::TimerCount | Refusal::TimerTime(_) | Refusal::PairCount =>
                 Layer::TimersAndPair,
+            Refusal::WiringCounts | Refusal::WireOrder(_) => Layer::Wiring,
+            Refusal::WireTwice(_) | Refusal::WireNames(_) => Layer::Wiring,
+            Refusal::BarForm | Refusal::BarStands | Refusal::BarsFull => Layer::Bars,
         }
     }
 
@@ -109,10 +133,12 @@ impl Refusal {
             Refusal::SectionCounts(section) => usize::from(section),
             Refusal::SectionNames(section) => usize::from(section),
             Refusal::TimerTime(timer) => usize::from(timer),
+            Refusal::WireOrder(wire) | Refusal::WireTwice(wire) | Refusal::WireNames(wire) => wire,
             Refusal::RowBytes(row) | Refusal::RowOrder(_, row) => row,
             Refusal::NotWhole(_) | Refusal::Version(_) | Refusal::Kind(_) | Refusal::Body(_) => 0,
             Refusal::PartCount | Refusal::TimerCount | Refusal::PairCount => 0,
-            Refusal::NoRoom | Refusal::RowParts => 0,
+            Refusal::WiringCounts | Refusal::NoRoom | Refusal::RowParts => 0,
+            Refusal::BarForm | Refusal::BarStands | Refusal::BarsFull => 0,
         }
     }
 }

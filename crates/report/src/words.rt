@@ -83,6 +83,26 @@ pub impl fmt::Display for Rule as RuleDisplay {
             Refusal::TimerCount => f.write_str("a timer bank has 1 to 16 timers"),
             Refusal::TimerTime(k) => write!(f, "timer {k}: a time is at most 65534 ticks"),
             Refusal::PairCount => f.write_str("two banks have at most 16 parts together"),
+            Refusal::WiringCounts => f.write_str(
+                "a wiring has up to 32 outer inputs, up to 32 outer outputs and up to 256 wires",
+            ),
+            Refusal::WireOrder(k) => write!(
+                f,
+                "wire {k}: it does not come after the one before it"
+            ),
+            Refusal::WireTwice(k) => write!(
+                f,
+                "wire {k}: an earlier wire has the same source, output and target"
+            ),
+            Refusal::WireNames(k) => write!(
+                f,
+                "wire {k}: an end names nothing, or both ends are of one part or outside"
+            ),
+            Refusal::BarForm => f.write_str(
+                "a bar has 1 to 4 conditions, their parts ascend, and each part has its phase",
+            ),
+            Refusal::BarStands => f.write_str("a bar with these conditions stands already"),
+            Refusal::BarsFull => f.write_str("at most 16 bars stand"),
             Refusal::NoRoom => f.write_str(
                 "no entry is free for a new record, or the output is too short",
             ),

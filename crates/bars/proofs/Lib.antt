@@ -1,0 +1,4 @@
+pub mod Same
+pub mod Standing
+pub mod Formed
+pub mod Told

@@ -1,0 +1,4 @@
+pub mod Bars
+pub mod Meaning
+pub mod Vetting
+pub mod Rules
