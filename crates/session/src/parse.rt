@@ -5,6 +5,7 @@ use crate::command::MalformedFromRefused;
 use crate::command::Source;
 use crate::numeral::decimal_number;
 use crate::numeral::hex_byte;
+use bars::condition::Condition;
 use fddevs::part::PartMove;
 use std::alloc::Global;
 use timers::setting::Setting;
@@ -102,6 +103,19 @@ fn rows(heap: Global, text: &str) -> Result<Command, Malformed> {
     Ok(Command::Rows(count, source(heap, file)?))
 }
 
+fn condition(word: &str) -> Option<Condition> {
+    let (part, phase) = word.split_once(':')?;
+    Some(Condition { part: decimal_u8(part)?, phase: decimal_u8(phase)? })
+}
+
+fn conditions(heap: Global, text: &str) -> Result<Vec<Condition>, Malformed> {
+    let mut list = Vec::new(heap);
+    for word in text.split_whitespace() {
+        list.push(condition(word).ok_or(Malformed::Condition)?)?;
+    }
+    Ok(list)
+}
+
 fn alone(command: Command, rest: &str) -> Result<Command, Malformed> {
     if rest.is_empty() {
         Ok(command)
@@ -118,6 +132,10 @@ fn command(heap: Global, line: &str) -> Result<Command, Malformed> {
         "sheet" => alone(Command::Sheet, rest),
         "follow" => follow(heap, rest),
         "rows" => rows(heap, rest),
+        "wire" => Ok(Command::Wire(source(heap, rest)?)),
+        "bar" => Ok(Command::Bar(conditions(heap, rest)?)),
+        "verdict" => alone(Command::Verdict, rest),
+        "show" => alone(Command::Show, rest),
         _ => Err(Malformed::Command),
     }
 }
