@@ -4,13 +4,18 @@ use mathlib.Core.Path.{_≡_, refl, sym, ap, _∙_}
 use mathlib.Core.Bool.{false, _||_}
 use mathlib.Core.List.{List}
 use lib.ListN.{length, getD, drop}
+use native.Mathlib.Omega.{arith}
 use Rattle.std.specs.Orderings.{Decides}
 use Rattle.std.specs.shelf.Lists.{Has}
-use Rattle.std.proofs.shelf.Lists.{at-drop-more, at-drop-all}
+use Rattle.std.specs.declared.option.Option.the-variants.{Some, None}
+use Rattle.std.specs.shelf.Maps.{nth}
+use Rattle.std.proofs.shelf.Lists.{at-drop-more, at-drop-all, length-map, length-take-le, getD-map}
+use Rattle.std.proofs.shelf.Maps.{nth-getD, nth-past}
 use Rattle.std.proofs.shelf.Ways.{decides-by-or}
 use Rattle.bars.specs.Bars.{same-bar, stands}
-use Rattle.bars.specs.Meaning.{conditions-of, all-conditions}
+use Rattle.bars.specs.Meaning.{conditions-of, all-conditions, bars-of}
 use Rattle.bars.specs.declared.bar.Bar.{Bar}
+use Rattle.bars.specs.declared.bars.Bars.{Bars}
 use Rattle.bars.specs.declared.condition.Condition.{Condition}
 use Rattle.bars.proofs.Same.{same-decides}
 
@@ -28,3 +33,24 @@ stands-none bars cs i h = at-drop-all (λ xs. stands (all-conditions xs) cs) bar
 pub stands-decides : (bars : List (List Condition)) (cs : List Condition) → Decides (stands bars cs) (Has bars cs)
 stands-decides bars cs =
     decides-by-or (λ b. same-bar b cs) (λ b. b ≡ cs) (λ bs. stands bs cs) (λ b. same-decides b cs) refl (λ _ _. refl) bars
+
+pub bars-count : (n : ℕ) (bars : Bars) → n ≤ 16 → length (bars-of n bars) ≡ n
+bars-count n bars h =
+    let whole = bars .whole in
+    let fits : n ≤ length (bars .table) = omega arith in
+    length-map _ conditions-of ∙ length-take-le n (bars .table) fits
+
+-- the bar that was read at a place, and the place past the last
+pub nth-read : (bars : List Bar) (k : ℕ) (b : Bar) → k < length bars → b ≡ getD bars k b →
+    Some (conditions-of b) ≡ nth (all-conditions bars) k
+nth-read bars k b h is =
+    let n = length-map bars conditions-of in
+    let h′ : k < length (all-conditions bars) = omega arith in
+    sym (nth-getD (all-conditions bars) k (conditions-of b) h′
+    ∙ ap Some (getD-map conditions-of bars k b (conditions-of b) h ∙ ap conditions-of (sym is)))
+
+pub nth-none : (bars : List Bar) (k : ℕ) → length bars ≤ k → None ≡ nth (all-conditions bars) k
+nth-none bars k h =
+    let n = length-map bars conditions-of in
+    let h′ : length (all-conditions bars) ≤ k = omega arith in
+    sym (nth-past (all-conditions bars) k h′)
