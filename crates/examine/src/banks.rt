@@ -106,19 +106,19 @@ pub fn run_session<'a>(rt: &'a LibcRuntime, session: &'a str, text: &str) -> Res
     let gathered = gather(rt, session, text)?;
     let passed = gathered.passed;
     match gathered.banks {
-        Banks::Nothing => run_calls(rt, &Idle, session, text, passed),
-        Banks::Timers(timers) => run_calls(rt, &timers, session, text, passed),
-        Banks::Table(table) => run_calls(rt, &table, session, text, passed),
+        Banks::Nothing => run_calls(rt, Idle, session, text, passed),
+        Banks::Timers(timers) => run_calls(rt, timers, session, text, passed),
+        Banks::Table(table) => run_calls(rt, table, session, text, passed),
         Banks::TimersTable(timers, table) => run_calls(
             rt,
-            &Pair::new(timers, table),
+            Pair::new(timers, table),
             session,
             text,
             passed,
         ),
         Banks::TableTimers(table, timers) => run_calls(
             rt,
-            &Pair::new(table, timers),
+            Pair::new(table, timers),
             session,
             text,
             passed,

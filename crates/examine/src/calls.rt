@@ -1,14 +1,18 @@
-// The lines of a session that ask something of its bank.
+// The lines of a session that ask something of its bank or of the examination.
 use crate::failure::Failure;
 use crate::failure::FailureFromAlloc;
 use crate::failure::FailureFromIo;
 use crate::line::Line;
 use bank::interface::Bank;
 use book::row::Row;
+use examination::examination::Examination;
 use fddevs::part::PartMove;
 use report::rows::all_rows;
 use report::rows::write_again;
 use report::sheet::sheet;
+use report::show::Reads;
+use report::show::ReadsDisplay;
+use report::show::show;
 use report::trace::follow_part;
 use report::words::Refused;
 use report::words::RefusedDisplay;
@@ -73,31 +77,48 @@ fn print_rows(line: Line, n: u8, source: Source) -> Result<(), Failure> {
     Ok(())
 }
 
-fn run_call<B: Bank>(line: Line, bank: &B, command: Command) -> Result<(), Failure> {
+fn wire<B: Bank>(line: Line, x: &mut Examination<B>, source: Source) -> Result<(), Failure> {
+    let file = line.bytes(source)?;
+    line.print_vetted("wire", x.wire(&file))
+}
+
+fn print_verdict<B: Bank>(line: Line, x: &Examination<B>) -> Result<(), Failure> {
+    let number = line.number;
+    let reads = Reads(x.verdict());
+    println!(line.rt, "{number} verdict: {reads}")?;
+    Ok(())
+}
+
+fn print_show<B: Bank>(line: Line, x: &Examination<B>) -> Result<(), Failure> {
+    let number = line.number;
+    let wires = x.wiring().wires().len();
+    let bars = x.bar_count();
+    let text = show(line.rt.alloc(), x)?;
+    println!(line.rt, "{number} show: wires {wires} bars {bars}")?;
+    print!(line.rt, "{text}")?;
+    Ok(())
+}
+
+fn run_call<B: Bank>(line: Line, x: &mut Examination<B>, command: Command) -> Result<(), Failure> {
     match command {
-        Command::Sheet => print_sheet(line, bank),
-        Command::Follow(part, moves) => print_follow(line, bank, part, &moves),
+        Command::Sheet => print_sheet(line, x.bank()),
+        Command::Follow(part, moves) => print_follow(line, x.bank(), part, &moves),
         Command::Rows(n, source) => print_rows(line, n, source),
+        Command::Wire(source) => wire(line, x, source),
+        Command::Bar(conditions) => line.print_vetted("bar", x.bar(&conditions)),
+        Command::Verdict => print_verdict(line, x),
+        Command::Show => print_show(line, x),
         Command::Timers(_) | Command::Scheme(_) => Err(line.malformed(Malformed::BankFirst)),
     }
 }
 
-// Runs the lines of a session behind the first `passed`.
-pub fn run_calls<'a, B: Bank>(
-    rt: &'a LibcRuntime,
-    bank: &B,
-    session: &'a str,
-    text: &str,
-    passed: usize,
-) -> Result<(), Failure> {
+// Runs the lines of a session behind the first `passed`, on an examination of the bank.
+pub fn run_calls<'a, B: Bank>(rt: &'a LibcRuntime, bank: B, session: &'a str, text: &str, passed: usize) -> Result<(), Failure> {
+    let mut x = Examination::new(bank);
     for (k, content) in text.lines().enumerate().skip(passed) {
-        let line = Line {
-            rt,
-            session,
-            number: k.saturating_add(1),
-        };
+        let line = Line { rt, session, number: k.saturating_add(1) };
         if let Some(command) = line.command(content)? {
-            run_call(line, bank, command)?;
+            run_call(line, &mut x, command)?;
         }
     }
     Ok(())
