@@ -113,10 +113,20 @@ fn run_call<B: Bank>(line: Line, x: &mut Examination<B>, command: Command) -> Re
 }
 
 // Runs the lines of a session behind the first `passed`, on an examination of the bank.
-pub fn run_calls<'a, B: Bank>(rt: &'a LibcRuntime, bank: B, session: &'a str, text: &str, passed: usize) -> Result<(), Failure> {
+pub fn run_calls<'a, B: Bank>(
+    rt: &'a LibcRuntime,
+    bank: B,
+    session: &'a str,
+    text: &str,
+    passed: usize,
+) -> Result<(), Failure> {
     let mut x = Examination::new(bank);
     for (k, content) in text.lines().enumerate().skip(passed) {
-        let line = Line { rt, session, number: k.saturating_add(1) };
+        let line = Line {
+            rt,
+            session,
+            number: k.saturating_add(1),
+        };
         if let Some(command) = line.command(content)? {
             run_call(line, &mut x, command)?;
         }

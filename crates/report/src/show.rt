@@ -1,8 +1,8 @@
 // The wires and the bars of an examination.
+use bank::interface::Bank;
 use bars::bar::Bar;
 use examination::examination::Examination;
 use examination::verdict::Verdict;
-use bank::interface::Bank;
 use fddevs::scheme::Wire;
 use std::alloc::AllocError;
 use std::alloc::Global;
@@ -25,13 +25,21 @@ pub impl fmt::Display for Reads as ReadsDisplay {
 fn source_end(heap: Global, wire: Wire) -> Result<String, AllocError> {
     let part = wire.source;
     let output = wire.output;
-    if part == 255 { format!(heap, "outer input {output}") } else { format!(heap, "part {part} output {output}") }
+    if part == 255 {
+        format!(heap, "outer input {output}")
+    } else {
+        format!(heap, "part {part} output {output}")
+    }
 }
 
 fn target_end(heap: Global, wire: Wire) -> Result<String, AllocError> {
     let part = wire.target;
     let input = wire.input;
-    if part == 255 { format!(heap, "outer output {input}") } else { format!(heap, "part {part} input {input}") }
+    if part == 255 {
+        format!(heap, "outer output {input}")
+    } else {
+        format!(heap, "part {part} input {input}")
+    }
 }
 
 fn wires_text(heap: Global, wires: &[Wire], out: &mut String) -> Result<(), AllocError> {

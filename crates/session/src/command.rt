@@ -58,7 +58,8 @@ impl Malformed {
     // What was expected, in plain words.
     pub fn expected(self) -> &'static str {
         match self {
-            Malformed::Command => "expected timers, scheme, sheet, follow, rows, wire, bar, verdict or show",
+            Malformed::Command =>
+                "expected timers, scheme, sheet, follow, rows, wire, bar, verdict or show",
             Malformed::NothingMore => "expected nothing more on this line",
             Malformed::Setting => "expected timer settings OPERATE/HOLD in decimal, as 20/5",
             Malformed::Source => "expected the path of a file, or hex and byte pairs",
@@ -66,7 +67,8 @@ impl Malformed {
             Malformed::Part => "expected a part number, from 0 to 255, and a colon",
             Malformed::Move => "expected moves separated by commas: input K, delay D or inner",
             Malformed::PartCount => "expected a number of parts, from 0 to 255, and a set file",
-            Malformed::Condition => "expected conditions PART:PHASE, each number from 0 to 255, as 0:2 1:3",
+            Malformed::Condition =>
+                "expected conditions PART:PHASE, each number from 0 to 255, as 0:2 1:3",
             Malformed::OneOfEach => "expected at most one timers line and one scheme line",
             Malformed::BankFirst => "expected the timers and scheme lines before all others",
             Malformed::Memory => "out of memory",

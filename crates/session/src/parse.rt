@@ -105,7 +105,10 @@ fn rows(heap: Global, text: &str) -> Result<Command, Malformed> {
 
 fn condition(word: &str) -> Option<Condition> {
     let (part, phase) = word.split_once(':')?;
-    Some(Condition { part: decimal_u8(part)?, phase: decimal_u8(phase)? })
+    Some(Condition {
+        part: decimal_u8(part)?,
+        phase: decimal_u8(phase)?,
+    })
 }
 
 fn conditions(heap: Global, text: &str) -> Result<Vec<Condition>, Malformed> {

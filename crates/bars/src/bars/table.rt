@@ -17,20 +17,29 @@ impl Bars {
         }
     }
 
-    // The first `count` bars.
+    // The first `count` bars, all if the count is larger.
     pub fn standing(&self, count: usize) -> &[Bar]
-        requires { ⌜ count ≤ 16 ⌝ }
         ensures { λ r. ⌜ all-conditions (now r) ≡ bars-of count (now (self .entry)) ⌝ }
     {
-        &self.table[..count]
+        &self.table[0..count.min(16)]
     }
 
-    // Puts a bar after the first `count`.
-    pub fn put(&mut self, count: usize, conditions: &[Condition])
+    fn set(&mut self, count: usize, conditions: &[Condition])
         requires room { ⌜ count < 16 ⌝ }
         requires few { ⌜ length (now conditions) ≤ 4 ⌝ }
         ensures { λ _. ⌜ bars-of (count + 1) (now (self .exit)) ≡ bars-of count (now (self .entry)) ++ (now (conditions .entry) ∷ []) ⌝ }
     {
         self.table[count] = Bar::of(conditions);
+    }
+
+    // Puts a bar after the first `count`, where the table has room for it and it has at most four conditions.
+    pub fn put(&mut self, count: usize, conditions: &[Condition])
+        ensures put { λ _. ⌜ (count < 16 → length (now (conditions .entry)) ≤ 4 → bars-of (count + 1) (now (self .exit)) ≡ bars-of count (now (self .entry)) ++ (now (conditions .entry) ∷ [])) ⌝ }
+        ensures no_room { λ _. ⌜ (16 ≤ count → now (self .exit) ≡ now (self .entry)) ⌝ }
+        ensures too_many { λ _. ⌜ (4 < length (now (conditions .entry)) → now (self .exit) ≡ now (self .entry)) ⌝ }
+    {
+        if count < 16 && conditions.len() <= 4 {
+            self.set(count, conditions);
+        }
     }
 }

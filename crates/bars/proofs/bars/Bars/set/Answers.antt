@@ -5,7 +5,7 @@ use lib.ListN.{length}
 use native.Mathlib.Omega.{arith}
 use Rattle.std.proofs.shelf.Lists.{take-more-set, map-push}
 use Rattle.bars.specs.Meaning.{conditions-of, bars-of}
-use Rattle.bars.proofs.bars.Bars.put.Needs as need
+use Rattle.bars.proofs.bars.Bars.set.Needs as need
 
 pub returns : need.returns
 returns c =
