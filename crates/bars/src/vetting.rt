@@ -6,7 +6,8 @@ ghost use lib.Dec.{ltb};
 ghost use lib.ListN.{length};
 ghost use Rattle.fddevs.specs.Machine.{has-phase};
 ghost use Rattle.std.specs.declared.result.Result.the-variants.{Ok};
-ghost use Rattle.fddevs.specs.Vetting.{all-below, Tells};
+ghost use Rattle.fddevs.specs.Vetting.{all-below, unless, Tells};
+ghost use Rattle.fddevs.specs.declared.refusal.Refusal.the-variants.{BarsFull};
 ghost use Rattle.bars.specs.Bars.{stands};
 ghost use Rattle.bars.specs.Meaning.{all-conditions};
 ghost use Rattle.bars.specs.Rules.{KeepsBarRules, Fault};
@@ -73,6 +74,15 @@ fn has_room(count: usize) -> bool
     count < 16
 }
 
+fn check_room(standing: &[Bar]) -> Result<(), Refusal>
+    ensures { λ r. ⌜ r ≡ unless (ltb (length (all-conditions (now (standing .entry)))) 16) BarsFull ⌝ }
+{
+    if !has_room(standing.len()) {
+        return Err(Refusal::BarsFull);
+    }
+    Ok(())
+}
+
 // The refusals in the order of their numbers.
 fn check_all<B: Bank>(bank: &B, standing: &[Bar], conditions: &[Condition]) -> Result<(), Refusal>
     ensures { λ r. ⌜ r ≡ vetting (B·Bank .family (now (bank .entry))) (all-conditions (now (standing .entry))) (now (conditions .entry)) ⌝ }
@@ -83,10 +93,7 @@ fn check_all<B: Bank>(bank: &B, standing: &[Bar], conditions: &[Condition]) -> R
     if is_standing(standing, conditions) {
         return Err(Refusal::BarStands);
     }
-    if !has_room(standing.len()) {
-        return Err(Refusal::BarsFull);
-    }
-    Ok(())
+    check_room(standing)
 }
 
 // Whether a bank and the bars that stand let the bar be taken.
