@@ -1,7 +1,7 @@
 -- A bar is well formed exactly where the test says so.
-use Prim.Native.Nat.{ℕ, zero, suc, _-_, _≤_, _<_}
+use Prim.Native.Nat.{ℕ, zero, suc, _-_, _<_}
 use mathlib.Core.Path.{_≡_, refl}
-use mathlib.Core.Bool.{true, _&&_, _||_}
+use mathlib.Core.Bool.{true, _||_}
 use mathlib.Core.List.{List}
 use mathlib.Core.Logic.{⊎-elim}
 use lib.Dec.{eqb, leb, ltb}
@@ -12,7 +12,7 @@ use Rattle.std.specs.Orderings.{Decides}
 use Rattle.std.proofs.shelf.Elements.{all-getD, all-from-getD}
 use Rattle.std.proofs.shelf.Tests.{and-parts, and-from, or-right, cases-lt, leb-true, le-leb, lt-ltb, ltb-true}
 use Rattle.std.proofs.shelf.Ways.{tells}
-use Rattle.fddevs.specs.Machine.{Family, has-phase}
+use Rattle.fddevs.specs.Machine.{Family}
 use Rattle.fddevs.specs.Vetting.{all-below}
 use Rattle.fddevs.proofs.Vetting.{below-true, true-below}
 use Rattle.bars.specs.Rules.{Exists, WellFormed}

@@ -1,5 +1,4 @@
 -- The vetting accepts exactly the bars that keep the rules, and tells of the faults of the others.
-use Prim.Native.Nat.{ℕ, _≤_, _<_}
 use mathlib.Core.Path.{_≡_, refl, sym, ap, subst}
 use mathlib.Core.Bool.{Bool, true, false, not}
 use mathlib.Core.List.{List}
@@ -9,17 +8,16 @@ use lib.ListN.{length}
 use native.Mathlib.Omega.{arith}
 use Rattle.std.specs.Results.{isOk}
 use Rattle.std.specs.declared.result.Result.the-variants.{Ok}
-use Rattle.std.specs.shelf.Lists.{Has}
 use Rattle.std.specs.Orderings.{Decides}
-use Rattle.std.proofs.shelf.Tests.{not-true, not-false, not-from-true, not-from-false, ltb-true, ltb-false, lt-ltb, le-ltb, cases-bool, both-ways}
+use Rattle.std.proofs.shelf.Tests.{not-true, not-false, not-from-true, ltb-true, ltb-false, lt-ltb, le-ltb}
 use Rattle.std.proofs.shelf.Ways.{not-from-decides}
 use Rattle.fddevs.specs.declared.refusal.Refusal.{Refusal}
 use Rattle.fddevs.specs.declared.refusal.Refusal.the-variants.{BarForm, BarStands, BarsFull}
 use Rattle.fddevs.specs.Machine.{Family}
-use Rattle.fddevs.specs.Vetting.{NotAfter, Tells, then, unless}
+use Rattle.fddevs.specs.Vetting.{NotAfter, Tells, unless}
 use Rattle.fddevs.proofs.Vetting.{then-ok, tested, tells-unless, tells-then, tells-as}
 use Rattle.bars.specs.Bars.{stands}
-use Rattle.bars.specs.Rules.{WellFormed, KeepsBarRules, Fault, ill-formed, stands-already, no-room}
+use Rattle.bars.specs.Rules.{KeepsBarRules, Fault, ill-formed, stands-already, no-room}
 use Rattle.bars.specs.Vetting.{well-formed, vetting}
 use Rattle.bars.specs.declared.condition.Condition.{Condition}
 use Rattle.bars.proofs.Formed.{formed-decides}

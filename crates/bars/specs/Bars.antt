@@ -1,8 +1,8 @@
 -- Bars as lists of conditions, and the states that they bar. Assumes nothing.
-use Prim.Native.Nat.{ℕ, zero, suc, _-_}
+use Prim.Native.Nat.{ℕ, zero, suc}
 use mathlib.Core.List.{List, [], _∷_}
 use mathlib.Core.Bool.{Bool, true, false, _&&_, _||_}
-use lib.Dec.{eqb, ltb}
+use lib.Dec.{eqb}
 use Rattle.bars.specs.declared.condition.Condition.{Condition}
 
 -- by the phases of the parts, part p is there and in phase s

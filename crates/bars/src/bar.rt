@@ -5,7 +5,8 @@ use crate::condition::Condition;
 
 pub mod compare;
 
-// A combination of phases that must never be entered: the first `count` conditions, one to four with ascending parts.
+// A bar: a combination of phases that must never be entered, as one to four conditions with ascending parts. They are
+// the first `count` of the table; a place of a table of bars that is free has none.
 #[derive(Clone, Copy)]
 pub struct Bar {
     table: [Condition; 4],

@@ -10,7 +10,7 @@ pub enum Verdict {
 }
 
 // What may change the verdict.
-#[derive(Clone, Copy, PartialEq, Eq, Debug)]
+#[derive(Clone, Copy)]
 pub(crate) enum Event {
     // a wiring takes the place of the one before
     Wired,
