@@ -6,3 +6,4 @@ pub mod Laws
 pub mod Refusals
 pub mod Vetting
 pub mod Cases
+pub mod Bytes

@@ -15,7 +15,8 @@ use Rattle.std.specs.declared.result.Result.the-variants.{Ok}
 use Rattle.std.specs.Results.{isOk}
 use Rattle.std.proofs.shelf.Tests.{eqb-true, ne-eqb, cases-lt}
 use Rattle.fddevs.proofs.Vetting.{none-first, found-none}
-use Rattle.scheme_file.specs.File.{two-at, head, part-count}
+use Rattle.fddevs.specs.Bytes.{two-at}
+use Rattle.scheme_file.specs.File.{head, part-count}
 use Rattle.scheme_file.specs.Vetting.{whole, right-length, refusal, sections-pass, Ready, Measured}
 use Rattle.scheme_file.specs.declared.section.Test.{Test}
 use Rattle.scheme_file.specs.declared.section.Test.the-variants.{Length, Limits, Names}

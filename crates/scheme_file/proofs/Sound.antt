@@ -20,7 +20,8 @@ use Rattle.fddevs.specs.declared.refusal.Refusal.the-variants.{NotWhole, Versio
 use Rattle.fddevs.proofs.Queries.{when-some}
 use Rattle.fddevs.proofs.Vetting.{then-ok, found-none, tested, none-first, true-below, strides}
 use Rattle.scheme_file.specs.Bank.{section-in}
-use Rattle.scheme_file.specs.File.{two-at, head, part-count, phase-of, section-at, record-at, record-of, record-size, lifespan-of, section-machine, file-family}
+use Rattle.fddevs.specs.Bytes.{two-at}
+use Rattle.scheme_file.specs.File.{head, part-count, phase-of, section-at, record-at, record-of, record-size, lifespan-of, section-machine, file-family}
 use Rattle.scheme_file.specs.Vetting.{vetting, whole, version-fits, count-fits, sections-pass, refusal, passes, counts-fit, right-length, output-exists, external-exists, record-exists, section-exists}
 use Rattle.scheme_file.specs.declared.section.Section.{Section}
 use Rattle.scheme_file.specs.declared.section.Test.the-variants.{Length, Limits, Names}

@@ -5,6 +5,7 @@ use mathlib.Core.Bool.{cond}
 use lib.Dec.{eqb, ltb}
 use lib.ListN.{getD, take, drop}
 use Rattle.std.specs.Iters.{counting}
+use Rattle.fddevs.specs.Bytes.{two-at}
 use Rattle.fddevs.specs.Machine.{Machine, Family}
 use Rattle.fddevs.specs.declared.part.Counts.{Counts}
 use Rattle.fddevs.specs.declared.part.External.{External}
@@ -16,10 +17,6 @@ use Rattle.fddevs.specs.declared.part.Span.{Span}
 use Rattle.fddevs.specs.declared.part.Span.the-variants.{Ticks, Unlimited}
 use Rattle.scheme_file.specs.declared.section.Phase.{Phase}
 use Rattle.scheme_file.specs.declared.section.Section.{Section}
-
--- the two-byte number at byte i, the high byte first
-abbrev pub two-at : List ℕ → ℕ → ℕ
-two-at f i = getD f i 0 * 256 + getD f (i + 1) 0
 
 -- FF FF is unlimited
 abbrev pub lifespan-of : ℕ → Span

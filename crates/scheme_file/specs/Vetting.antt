@@ -14,7 +14,8 @@ use Rattle.fddevs.specs.declared.part.Output.the-variants.{Silent, Sends}
 use Rattle.fddevs.specs.declared.refusal.Layer.the-variants.{Scheme}
 use Rattle.fddevs.specs.declared.refusal.Refusal.{Refusal}
 use Rattle.fddevs.specs.declared.refusal.Refusal.the-variants.{NotWhole, Version, SectionLength, PartCount, SectionCounts, SectionNames}
-use Rattle.scheme_file.specs.File.{two-at, head, phase-of, part-count, section-of, record-of, record-size, file-family}
+use Rattle.fddevs.specs.Bytes.{two-at}
+use Rattle.scheme_file.specs.File.{head, phase-of, part-count, section-of, record-of, record-size, file-family}
 use Rattle.scheme_file.specs.declared.section.Phase.{Phase}
 use Rattle.scheme_file.specs.declared.section.Section.{Section}
 use Rattle.scheme_file.specs.declared.section.Test.{Test}

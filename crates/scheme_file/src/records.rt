@@ -2,7 +2,8 @@
 ghost use mathlib.Core.Path.{_≡_};
 ghost use Prim.Native.Nat.{_+_, _*_, _≤_};
 ghost use lib.ListN.{length};
-ghost use Rattle.scheme_file.specs.File.{two-at, phase-of, external-of, section-of, record-size, record-at, record-of};
+ghost use Rattle.fddevs.specs.Bytes.{two-at};
+ghost use Rattle.scheme_file.specs.File.{phase-of, external-of, section-of, record-size, record-at, record-of};
 use crate::section::Phase;
 use crate::section::Section;
 use fddevs::part::Counts;

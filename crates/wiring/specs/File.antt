@@ -6,12 +6,9 @@ use mathlib.Core.Bool.{Bool, _&&_}
 use lib.Dec.{eqb, leb}
 use lib.ListN.{getD, length}
 use Rattle.std.specs.Iters.{counting}
+use Rattle.fddevs.specs.Bytes.{two-at}
 use Rattle.fddevs.specs.declared.scheme.Wire.{Wire}
 use Rattle.fddevs.specs.Scheme.{Wiring}
-
--- the two-byte number at byte i, the high byte first
-abbrev pub two-at : List ℕ → ℕ → ℕ
-two-at f i = getD f i 0 * 256 + getD f (i + 1) 0
 
 abbrev pub wire-at : List ℕ → ℕ → Wire
 wire-at f i = record {
