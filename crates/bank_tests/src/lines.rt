@@ -81,6 +81,8 @@ fn malformed_lines_say_what_was_expected(rt: LibcRuntime) -> Result<(), Fail> {
     malformed(rt.alloc(), "scheme", Malformed::Source)?;
     malformed(rt.alloc(), "scheme hex 1 02", Malformed::HexPair)?;
     malformed(rt.alloc(), "rows hex 01", Malformed::PartCount)?;
+    malformed(rt.alloc(), "bar 0:1 2", Malformed::Condition)?;
+    malformed(rt.alloc(), "verdict now", Malformed::NothingMore)?;
     malformed(rt.alloc(), "follow inner", Malformed::Part)?;
     malformed(rt.alloc(), "follow 256: inner", Malformed::Part)?;
     malformed(rt.alloc(), "follow 0: input", Malformed::Move)?;

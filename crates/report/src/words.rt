@@ -4,7 +4,6 @@ use fddevs::part::Output;
 use fddevs::part::PartMove;
 use fddevs::part::PartState;
 use fddevs::part::Span;
-use fddevs::refusal::Layer;
 use fddevs::refusal::Refusal;
 use follow::steps::remaining;
 use std::fmt;
@@ -46,80 +45,56 @@ pub impl fmt::Display for Refused as RefusedDisplay {
     }
 }
 
-fn file_name(layer: Layer) -> &'static str {
-    match layer {
-        Layer::Scheme => "scheme file",
-        Layer::Wiring => "wiring file",
-        Layer::Proof => "proof file",
-        Layer::BookAndPlayback => "set file",
-        Layer::OutputList | Layer::TimersAndPair | Layer::Bars => "file",
+// What a refusal's place counts.
+fn counted(refusal: Refusal) -> Option<&'static str> {
+    match refusal {
+        Refusal::SectionLength(_) | Refusal::SectionCounts(_) | Refusal::SectionNames(_) => Some(
+            "section",
+        ),
+        Refusal::TimerTime(_) => Some("timer"),
+        Refusal::WireOrder(_) | Refusal::WireTwice(_) | Refusal::WireNames(_) => Some("wire"),
+        Refusal::RowBytes(_) | Refusal::RowOrder(_, _) => Some("row"),
+        _ => None,
+    }
+}
+
+fn rule_text(refusal: Refusal) -> &'static str {
+    match refusal {
+        Refusal::NotWhole(_) => "the file ends early or has bytes to spare",
+        Refusal::Version(_) => "the version of the file is not 01",
+        Refusal::SectionLength(_) => "its length is not 4 + phases x (4 + 2 x inputs)",
+        Refusal::PartCount => "a scheme has 1 to 16 parts",
+        Refusal::SectionCounts(_) =>
+            "a part has 1 to 64 phases, up to 16 inputs and up to 16 outputs",
+        Refusal::SectionNames(_) => "a start, next phase, output or mark names nothing",
+        Refusal::TimerCount => "a timer bank has 1 to 16 timers",
+        Refusal::TimerTime(_) => "a time is at most 65534 ticks",
+        Refusal::PairCount => "two banks have at most 16 parts together",
+        Refusal::WiringCounts =>
+            "a wiring has up to 32 outer inputs, up to 32 outer outputs and up to 256 wires",
+        Refusal::WireOrder(_) => "it does not come after the one before it",
+        Refusal::WireTwice(_) => "an earlier wire has the same source, output and target",
+        Refusal::WireNames(_) => "an end names nothing, or both ends are of one part or outside",
+        Refusal::BarForm =>
+            "a bar has 1 to 4 conditions, their parts ascend, and each part has its phase",
+        Refusal::BarStands => "a bar with these conditions stands already",
+        Refusal::BarsFull => "at most 16 bars stand",
+        Refusal::NoRoom => "no entry is free for a new record, or the output is too short",
+        Refusal::Kind(_) => "the kind of the file is not the one that is read",
+        Refusal::Body(_) => "the body is empty, not whole rows, or above 4194304 bytes",
+        Refusal::RowBytes(_) => "a byte beyond its parts is not 0",
+        Refusal::RowOrder(_, _) => "it is not above the row before it",
+        Refusal::RowParts => "rows have 1 to 16 parts",
     }
 }
 
 pub impl fmt::Display for Rule as RuleDisplay {
     fn fmt<W: fmt::Write>(&self, f: &mut fmt::Formatter<W>) -> fmt::Result {
-        match self.0 {
-            Refusal::NotWhole(layer) => {
-                let name = file_name(layer);
-                write!(f, "the {name} ends early or has bytes to spare")
-            }
-            Refusal::Version(layer) => {
-                let name = file_name(layer);
-                write!(f, "the version of the {name} is not 01")
-            }
-            Refusal::SectionLength(k) => write!(
-                f,
-                "section {k}: its length is not 4 + phases x (4 + 2 x inputs)"
-            ),
-            Refusal::PartCount => f.write_str("a scheme has 1 to 16 parts"),
-            Refusal::SectionCounts(k) => write!(
-                f,
-                "section {k}: a part has 1 to 64 phases, up to 16 inputs and up to 16 outputs"
-            ),
-            Refusal::SectionNames(k) => write!(
-                f,
-                "section {k}: a start, next phase, output or mark names nothing"
-            ),
-            Refusal::TimerCount => f.write_str("a timer bank has 1 to 16 timers"),
-            Refusal::TimerTime(k) => write!(f, "timer {k}: a time is at most 65534 ticks"),
-            Refusal::PairCount => f.write_str("two banks have at most 16 parts together"),
-            Refusal::WiringCounts => f.write_str(
-                "a wiring has up to 32 outer inputs, up to 32 outer outputs and up to 256 wires",
-            ),
-            Refusal::WireOrder(k) => write!(
-                f,
-                "wire {k}: it does not come after the one before it"
-            ),
-            Refusal::WireTwice(k) => write!(
-                f,
-                "wire {k}: an earlier wire has the same source, output and target"
-            ),
-            Refusal::WireNames(k) => write!(
-                f,
-                "wire {k}: an end names nothing, or both ends are of one part or outside"
-            ),
-            Refusal::BarForm => f.write_str(
-                "a bar has 1 to 4 conditions, their parts ascend, and each part has its phase",
-            ),
-            Refusal::BarStands => f.write_str("a bar with these conditions stands already"),
-            Refusal::BarsFull => f.write_str("at most 16 bars stand"),
-            Refusal::NoRoom => f.write_str(
-                "no entry is free for a new record, or the output is too short",
-            ),
-            Refusal::Kind(layer) => {
-                let name = file_name(layer);
-                write!(f, "the kind of the {name} is not the one that is read")
-            }
-            Refusal::Body(layer) => {
-                let name = file_name(layer);
-                write!(
-                    f,
-                    "the body of the {name} is empty, not whole rows, or above 4194304 bytes"
-                )
-            }
-            Refusal::RowBytes(k) => write!(f, "row {k}: a byte beyond its parts is not 0"),
-            Refusal::RowOrder(_, k) => write!(f, "row {k}: it is not above the row before it"),
-            Refusal::RowParts => f.write_str("rows have 1 to 16 parts"),
+        let rule = rule_text(self.0);
+        let place = self.0.place();
+        match counted(self.0) {
+            Some(name) => write!(f, "{name} {place}: {rule}"),
+            None => f.write_str(rule),
         }
     }
 }
