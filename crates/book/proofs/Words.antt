@@ -1,17 +1,16 @@
 -- Numbers of equally many digits are ordered as their digits are.
 use Rattle.std.proofs.Common.{◌≡◌, ℕ, ◌+◌, ◌*◌, ◌<◌, List, [], ◌∷◌, ◌++◌, length, get_or, take, drop, Ordering, Less, Equal, Greater, sym, refl, ap, ◌∙◌, inl, inr, arith, length-take, take_all}
-use Rattle.std.specs.Ordering.{ordering_then, MatchOrdering}
-use Rattle.std.specs.Cmp.{nat_cmp_total}
+use Rattle.std.specs.Ordering.{nat_cmp, ordering_then, MatchOrdering}
+use Rattle.std.specs.Cmp.{nat_cmp_is}
 use Rattle.std.specs.Int.Digits.{number_from_digits, number_from_digits_after, AllBelowBase}
 use Rattle.std.proofs.lemmas.Int.Digits.{number_more}
 use Rattle.std.proofs.lemmas.List.{take-append-drop}
 use Rattle.std.proofs.lemmas.Bool.{cases_lt}
 use Rattle.book.specs.Records.{byte_order}
 use Rattle.book.specs.Words.{Word}
-use Rattle.std.specs.Ordering as std-orderings
 
 abbrev rank : ℕ → ℕ → Ordering
-rank = std-orderings.nat_cmp
+rank = nat_cmp
 
 then_assoc : (a b c : Ordering) → ordering_then (ordering_then a b) c ≡ ordering_then a (ordering_then b c)
 then_assoc Less b c = refl
@@ -24,7 +23,7 @@ then_equal Equal = refl
 then_equal Greater = refl
 
 ranked : (m n : ℕ) (o : Ordering) → MatchOrdering o (m < n) (m ≡ n) (n < m) → rank m n ≡ o
-ranked m n o h = sym (nat_cmp_total.says m n o h)
+ranked m n o h = sym (nat_cmp_is m n o h)
 
 -- two numbers, by the three ways in which they can stand
 three : {G : Type 0} (m n : ℕ) → (m < n → rank m n ≡ Less → G) → (m ≡ n → rank m n ≡ Equal → G) →

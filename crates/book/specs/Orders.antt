@@ -5,8 +5,7 @@ use Rattle.std.specs.declared.cmp.Ordering.{Ordering}
 use Rattle.std.proofs.Common.{sym, ap, ◌∙◌}
 use Rattle.std.specs.Ordering.{ordering_reverse, nat_cmp, ordering_then}
 use Rattle.std.specs.Cmp.{IsTotalOrder, nat_cmp_total, then_total, on_total}
-use Rattle.std.specs.BTreeMap.AsLists.{CmpEqualImpliesEq}
-use Rattle.std.proofs.lemmas.Map.Lookups.{exact_unsigned, exact_bytes, exact_pairs}
+use Rattle.std.proofs.lemmas.Map.Lookups.{CmpEqualImpliesEq, exact_unsigned, exact_bytes, exact_pairs}
 use Rattle.book.specs.Order.{TotalOrder}
 use Rattle.book.specs.Records.{byte_order, row_order, key, stimulus_order}
 use Rattle.std.specs.Cmp.Lexicographic.{lists_total}
@@ -17,7 +16,7 @@ self_tied Equal e = refl
 self_tied Greater e = cc
 
 -- values are in a total order by what a function reads of them, where it tells them apart
-total_by : {K J : Type 0} {R : J → J → Ordering → Type 0} (o : IsTotalOrder R) → CmpEqualImpliesEq R → (f : K → J) →
+total_by : {K J : Type 0} {R : J → J → Ordering} (o : IsTotalOrder R) → CmpEqualImpliesEq R → (f : K → J) →
     ((x y : K) → f x ≡ f y → x ≡ y) → TotalOrder (λ (x y : K). R (f x) (f y))
 total_by o exact f one = record {
   same = λ x y e. one x y (exact (f x) (f y) e);

@@ -8,7 +8,7 @@ use Rattle.std.specs.Cmp.Lexicographic.{slice_cmp}
 
 -- the first byte that differs decides, and else the length
 abbrev pub byte_order : List ℕ → List ℕ → Ordering
-byte_order = (slice_cmp nat_cmp)
+byte_order = slice_cmp nat_cmp
 
 abbrev pub row_order : Row → Row → Ordering
 row_order x y = byte_order x.bytes y.bytes

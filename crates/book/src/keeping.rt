@@ -25,7 +25,7 @@ pub enum Put {
 // Where the record stands among the first `count`, or else where it belongs, by bisection.
 fn find<T: Record>(list: &[T], count: usize, item: &T) -> Result<usize, usize>
     requires { count ≤ length list.now }
-    ensures place { result ≡ place order item.now list.now count }
+    ensures place { result ≡ place T.order item.now list.now count }
     ensures bound { MatchResult result (λ i. i < count) (λ i. i ≤ count) }
 {
     let mut low = 0;
@@ -52,8 +52,8 @@ fn insert<T: Copy>(list: &mut [T], count: usize, at: usize, item: T)
 
 // Puts the record among the first `count`, unless it is there or no entry is free.
 fn put_in<T: Record>(list: &mut [T], count: usize, item: T) -> Result<Put, Refusal>
-    ensures answer { result ≡ answer order item list.old count }
-    ensures list { list.new ≡ list_after order item list.old count }
+    ensures answer { result ≡ answer T.order item list.old count }
+    ensures list { list.new ≡ list_after T.order item list.old count }
 {
     match find(list, count.min(list.len()), &item) {
         Ok(_) => Ok(Put::Present),
@@ -72,7 +72,7 @@ impl<'a, T: Record> Book<'a, T> {
     pub fn new(list: &'a mut [T]) -> Self
         ensures list { result.list.now ≡ list.old }
         ensures count { result.count ≡ 0 }
-        ensures kept { Kept order result.list.now result.count }
+        ensures kept { Kept T.order result.list.now result.count }
         ensures names { result.list.ghost_name ≡ list.entry.ghost_name }
     {
         Book { list, count: 0 }
@@ -80,7 +80,7 @@ impl<'a, T: Record> Book<'a, T> {
 
     // Puts a record in its place and counts it.
     fn add(&mut self, item: T) -> Result<Put, Refusal>
-        ensures puts { Puts order item self.old.list.now self.old.count result self.new.list.now self.new.count }
+        ensures puts { Puts T.order item self.old.list.now self.old.count result self.new.list.now self.new.count }
         ensures names { self.new.list.ghost_name ≡ self.old.list.ghost_name }
     {
         let Book { list, count } = self;
@@ -93,8 +93,8 @@ impl<'a, T: Record> Book<'a, T> {
 
     // Puts a record in its place, once. A refusal leaves the book as it was.
     pub fn put(&mut self, item: T) -> Result<Put, Refusal>
-        ensures puts { Puts order item self.old.list.now self.old.count result self.new.list.now self.new.count }
-        ensures right { Kept order self.old.list.now self.old.count → PutsRight order item self.old.list.now self.old.count result self.new.list.now self.new.count }
+        ensures puts { Puts T.order item self.old.list.now self.old.count result self.new.list.now self.new.count }
+        ensures right { Kept T.order self.old.list.now self.old.count → PutsRight T.order item self.old.list.now self.old.count result self.new.list.now self.new.count }
         ensures names { self.new.list.ghost_name ≡ self.old.list.ghost_name }
     {
         self.add(item)

@@ -12,7 +12,7 @@ use Rattle.fddevs.specs.Vetting.{Vetted, then, unless, seek, found}
 use Rattle.book.specs.declared.row.Row.{Row}
 use Rattle.book.specs.Records.{byte_order}
 use Rattle.set_file.specs.Layout.{some_parts, width, body_fits, front, set_file, said_length}
-use Rattle.set_file.specs.Reading.{whole, head_vetting, climbs, order_vetting, rows_of, vetted, read_set}
+use Rattle.set_file.specs.Reading.{head_vetting, climbs, order_vetting, rows_of, vetted, read_set}
 use Rattle.set_file.specs.Writing.{row_at, Whole, file_length, size_vetting, clean_at, bytes_vetting, rises, rows_vetting, write_vetting, written, or_else, left, ReadBack}
 use Rattle.set_file.proofs.Seeking.{seek_passed, seek_passes, then_passed, unless_passed}
 use Rattle.set_file.proofs.Fronts.{front_order}

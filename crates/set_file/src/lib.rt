@@ -1,4 +1,6 @@
 // Set files: a set of rows written as a file, and read again.
+#![tactic(auto)]
+
 mod layout;
 pub mod reader;
 pub mod reading;

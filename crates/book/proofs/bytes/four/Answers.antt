@@ -5,6 +5,6 @@ use Rattle.book.proofs.bytes.four.Goals as goal
 
 pub returns : goal.returns
 returns c = record {
-  value = c.from-be-bytes.ensures ∙ sym (four_value c.args.bytes.now c.told-bytes);
+  value = c.from_be_bytes.ensures ∙ sym (four_value c.args.bytes.now c.told-bytes);
   small = All-from_get_or (λ d. d < 256) c.args.bytes.now 0 (λ i _. c.fits-bytes i);
 }

@@ -6,13 +6,13 @@ use Rattle.proof_rules.specs.Rules.{row_phases}
 use Rattle.judging.proofs.Barred.{barred_more, barred_done}
 use Rattle.judging.proofs.barring.is_barred.Goals as goal
 
-pub returns-then-all-hold : goal.returns-then-all-hold
-returns-then-all-hold g c =
+pub returns-then-all_hold : goal.returns-then-all_hold
+returns-then-all_hold g c =
     let phases = row_phases (take (g.B.Bank.family c.args.bank.now).count (cells_of c.args.row.now.bytes)) in
     let bars = c.args.bars.now in
     let i = c.loop-bar.bar-index in
     ap (λ t. t || barred (all_conditions (drop (i + 1) bars)) phases)
-    (c.if-all-hold.ensures ∙ ap (λ cs. holds cs phases) c.conditions.ensures)
+    (c.if-all_hold.ensures ∙ ap (λ cs. holds cs phases) c.conditions.ensures)
     ∙ sym (barred_more bars phases i c.bar-item.result c.loop-bar-test.true c.bar-item.is) ∙ c.loop-bar.invariant
 
 pub loop-bar-preserved : goal.loop-bar-preserved
@@ -21,7 +21,7 @@ loop-bar-preserved g c =
     let bars = c.args.bars.now in
     let i = c.loop-bar.bar-index in
     ap (λ t. t || barred (all_conditions (drop (i + 1) bars)) phases)
-    (c.if-all-hold.ensures ∙ ap (λ cs. holds cs phases) c.conditions.ensures)
+    (c.if-all_hold.ensures ∙ ap (λ cs. holds cs phases) c.conditions.ensures)
     ∙ sym (barred_more bars phases i c.bar-item.result c.loop-bar-test.true c.bar-item.is) ∙ c.loop-bar.invariant
 
 pub returns : goal.returns

@@ -8,8 +8,8 @@ use Rattle.judging.proofs.barring.is_in.Goals as goal
 pub phase-requires : goal.phase-requires
 phase-requires g c = omega (arith, (g.met.B.Bank.limits c.args.bank.now).few)
 
-pub returns-then-condition-part-count : goal.returns-then-condition-part-count
-returns-then-condition-part-count g c =
+pub returns-then-condition-part_count : goal.returns-then-condition-part_count
+returns-then-condition-part_count g c =
     let n = (g.B.Bank.family c.args.bank.now).count in
     let few = (g.met.B.Bank.limits c.args.bank.now).few in
     let bs = c.args.row.now.bytes in
@@ -18,9 +18,9 @@ returns-then-condition-part-count g c =
     ap (λ k. eqb k c.args.condition.phase) c.phase.ensures.value
     ∙ sym (in_there n (cells_of bs) c.args.condition.part c.args.condition.phase here there)
 
-pub returns-else-condition-part-count : goal.returns-else-condition-part-count
-returns-else-condition-part-count g c =
+pub returns-else-condition-part_count : goal.returns-else-condition-part_count
+returns-else-condition-part_count g c =
     let n = (g.B.Bank.family c.args.bank.now).count in
     let past : n ≤ c.args.condition.part = omega arith in
-    le-ltb c.args.condition.part c.part-count.result c.if-condition-part-count.false
+    le-ltb c.args.condition.part c.part_count.result c.if-condition-part_count.false
     ∙ sym (in_past n (cells_of c.args.row.now.bytes) c.args.condition.part c.args.condition.phase past)

@@ -9,4 +9,4 @@ returns-in-Some g c =
 pub returns-in-None : goal.returns-in-None
 returns-in-None g c =
     none_among (g.B.Bank.family c.args.bank.now) (g.met.B.Bank.limits c.args.bank.now) c.args.rows.now c.requires
-    c.args.row.now c.know-row.ensures.bytes (c.in-None.ensures c.requires.rising)
+    c.args.row.now c.know_row.ensures.bytes (c.in-None.ensures c.requires.rising)

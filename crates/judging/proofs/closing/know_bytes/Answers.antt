@@ -2,4 +2,4 @@ use Rattle.proof_rules.proofs.Typed.{typed_bytes}
 use Rattle.judging.proofs.closing.know_bytes.Goals as goal
 
 pub returns : goal.returns
-returns c = typed_bytes c.args.bytes.now c.type-inv.bytes
+returns c = typed_bytes c.args.bytes.now c.type_inv.bytes

@@ -15,7 +15,7 @@ returns g c =
     let few = (g.met.B.Bank.limits c.args.bank.now).few in
     let cs = cells_of c.args.row.now.bytes in
     let rows = rows_in F.count c.args.rows.now.body.now in
-    let long : F.count ≤ length cs = omega (arith, sixteen_cells c.args.row.now.bytes c.know-row.ensures.whole) in
+    let long : F.count ≤ length cs = omega (arith, sixteen_cells c.args.row.now.bytes c.know_row.ensures.whole) in
     let next = ap (take F.count) c.step.ensures ∙ take_after F W cs long c.args.a in
-    c.is-among.ensures ∙ ap (among rows) next
+    c.is_among.ensures ∙ ap (among rows) next
     ∙ ap (λ b. not b || among rows (row_after (scheme F W) (take F.count cs) c.args.a)) c.if-not-allows.ensures

@@ -18,13 +18,13 @@ returns g c =
     let W = wiring_of c.args.wiring.now in
     let bars = all_conditions c.args.bars.now in
     let file = c.args.file.now in
-    let bytes = typed_bytes file c.type-inv.file in
+    let bytes = typed_bytes file c.type_inv.file in
     record {
-      answer = c.judge-file.ensures;
+      answer = c.judge_file.ensures;
       exactly =
-          subst (ByTheRules F W bars file) (sym c.judge-file.ensures)
+          subst (ByTheRules F W bars file) (sym c.judge_file.ensures)
           (judged_by_the_rules F (g.met.B.Bank.limits c.args.bank.now) W bars file bytes);
       tells =
-          subst (λ (r : Result Evidence Refusal). Tells (Fault F W bars file) (vetting_of r)) (sym c.judge-file.ensures)
+          subst (λ (r : Result Evidence Refusal). Tells (Fault F W bars file) (vetting_of r)) (sym c.judge_file.ensures)
           (judging_tells F W bars file (All-drop _ 6 file bytes));
     }

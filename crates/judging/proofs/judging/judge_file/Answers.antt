@@ -8,6 +8,6 @@ pub returns : goal.returns
 returns g c =
     let file = c.args.file.now in
     let six : 6 ≤ length file = search rules in
-    c.judge-body.ensures
+    c.judge_body.ensures
     ∙ headed (g.B.Bank.family c.args.bank.now) (wiring_of c.args.wiring.now) (all_conditions c.args.bars.now) file six
-    (sym c.from-be-bytes-length.ensures ∙ c.if-length-body.false) c.if-version-ne1.false
+    (sym c.from_be_bytes-length.ensures ∙ c.if-length-body.false) c.if-version-ne1.false

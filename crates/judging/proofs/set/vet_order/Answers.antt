@@ -19,7 +19,7 @@ returns-then-not-climbs g c =
     let some = some_of F (g.met.B.Bank.limits c.args.bank.now) in
     let body = c.args.body.now in
     let rows = c.new-rows.result in
-    let e = c.new-rows.ensures ∙ ap (λ n. shape_of n body) c.part-count.ensures in
+    let e = c.new-rows.ensures ∙ ap (λ n. shape_of n body) c.part_count.ensures in
     let k = c.loop-k.k in
     let here : k < rows.count = omega (arith, c.count-k-end.ensures) in
     let test = later_climbs F.count body k c.loop-k.auto.k
@@ -33,7 +33,7 @@ loop-k-preserved g c =
     let some = some_of F (g.met.B.Bank.limits c.args.bank.now) in
     let body = c.args.body.now in
     let rows = c.new-rows.result in
-    let e = c.new-rows.ensures ∙ ap (λ n. shape_of n body) c.part-count.ensures in
+    let e = c.new-rows.ensures ∙ ap (λ n. shape_of n body) c.part_count.ensures in
     let k = c.loop-k.k in
     let here : k < rows.count = omega (arith, c.count-k-end.ensures) in
     let test = later_climbs F.count body k c.loop-k.auto.k
@@ -46,6 +46,6 @@ returns g c =
     let F = g.B.Bank.family c.args.bank.now in
     let some = some_of F (g.met.B.Bank.limits c.args.bank.now) in
     let body = c.args.body.now in
-    let e = c.new-rows.ensures ∙ ap (λ n. shape_of n body) c.part-count.ensures in
+    let e = c.new-rows.ensures ∙ ap (λ n. shape_of n body) c.part_count.ensures in
     found_nowhere F.count some body c.new-rows.result e (in_order F.count body) (RowOrder Proof)
     c.loop-k.k (omega (arith, c.count-k-end.ensures)) c.loop-k.invariant

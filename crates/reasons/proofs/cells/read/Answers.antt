@@ -11,6 +11,6 @@ returns c =
     let bs = c.args.row.now.bytes in
     let p = c.from-at.result in
     let f : Span → Cell = λ s. record { phase = get_or bs (3 * p) 0; remaining = s } in
-    ap f (c.span.ensures ∙ ap span_of c.from-be-bytes-ticks.ensures)
+    ap f (c.span.ensures ∙ ap span_of c.from_be_bytes-ticks.ensures)
     ∙ sym (read_cell p bs (omega (arith, c.from-at.ensures)))
     ∙ ap (nth_cell (cells_of bs)) c.from-at.ensures

@@ -17,7 +17,7 @@ returns-in-Some g c =
     let few = limits.few in
     let cs = cells_of c.args.row.now.bytes in
     let rows = rows_in F.count c.args.rows.now.body.now in
-    let long : F.count ≤ length cs = omega (arith, sixteen_cells c.args.row.now.bytes c.know-row.ensures.whole) in
+    let long : F.count ≤ length cs = omega (arith, sixteen_cells c.args.row.now.bytes c.know_row.ensures.whole) in
     let next = ap (take F.count) c.step.ensures ∙ take_after F W cs long c.args.a in
     λ set.
     sym (
@@ -32,13 +32,13 @@ returns-in-None g c =
     let few = limits.few in
     let cs = cells_of c.args.row.now.bytes in
     let rows = rows_in F.count c.args.rows.now.body.now in
-    let long : F.count ≤ length cs = omega (arith, sixteen_cells c.args.row.now.bytes c.know-row.ensures.whole) in
+    let long : F.count ≤ length cs = omega (arith, sixteen_cells c.args.row.now.bytes c.know_row.ensures.whole) in
     let next = ap (take F.count) c.step.ensures ∙ take_after F W cs long c.args.a in
     λ set. record {
       allowed = sym c.if-not-allows.ensures;
       leads = next;
       missing =
           sym (
-          none_among F limits c.args.rows.now set c.step.new.row c.know-row-2.ensures.bytes (c.in-None.ensures set.rising)
+          none_among F limits c.args.rows.now set c.step.new.row c.know_row-2.ensures.bytes (c.in-None.ensures set.rising)
           ∙ ap (among rows) next);
     }

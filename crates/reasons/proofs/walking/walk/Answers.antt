@@ -21,14 +21,14 @@ returns g c =
     c.args.steps c.args.body.now c.loop-ahead.ahead (cells_of c.loop-ahead.row.bytes) c.loop-ahead.left.now c.loop-ahead.invariant
     (omega arith)
 
-pub returns-in-default : goal.returns-in-default
-returns-in-default g c =
+pub returns-in_default : goal.returns-in_default
+returns-in_default g c =
     ends_short (g.B.Bank.family c.args.bank.now) (g.met.B.Bank.limits c.args.bank.now) (wiring_of c.args.wiring.now)
     c.args.steps c.args.body.now c.loop-ahead.ahead (cells_of c.loop-ahead.row.bytes) c.loop-ahead.left.now c.loop-ahead.invariant
     (search rules)
 
-pub returns-in-default-move-of : goal.returns-in-default-move-of
-returns-in-default-move-of g c =
+pub returns-in_default-move_of : goal.returns-in_default-move_of
+returns-in_default-move_of g c =
     ends_unread (g.B.Bank.family c.args.bank.now) (g.met.B.Bank.limits c.args.bank.now) (wiring_of c.args.wiring.now)
     c.args.steps c.args.body.now c.loop-ahead.ahead (cells_of c.loop-ahead.row.bytes) c.loop-ahead.left.now c.loop-ahead.invariant
     (omega arith) (search rules) (search rules)

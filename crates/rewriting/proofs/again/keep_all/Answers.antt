@@ -19,18 +19,18 @@ loop-k-preserved c =
     let xs = c.args.records.now in
     let p = c.put.ensures.puts in
     let f = last_first xs (c.loop-k.k - 1) none (omega arith) in
-    let g = goes_on _ (reverse (take (c.loop-k.k - 1) xs)) _ _ _ _ _ _ p c.in-ok-put.was in
+    let g = goes_on _ (reverse (take (c.loop-k.k - 1) xs)) _ _ _ _ _ _ p c.in_ok-put.was in
     let e : c.loop-k.k - 1 + 1 ≡ c.loop-k.k = omega arith in
     sym g
     ∙ ap (λ l. keep_all l c.loop-k.book.list.now c.loop-k.book.count) (sym f ∙ ap (λ j. reverse (take j xs)) e)
     ∙ c.loop-k.invariant
 
-pub returns-in-err-put : goal.returns-in-err-put
-returns-in-err-put c =
+pub returns-in_err-put : goal.returns-in_err-put
+returns-in_err-put c =
     let xs = c.args.records.now in
     let p = c.put.ensures.puts in
     let f = last_first xs (c.loop-k.k - 1) none (omega arith) in
-    let g = is_refused _ (reverse (take (c.loop-k.k - 1) xs)) _ _ _ _ _ _ p c.in-err-put.was in
+    let g = is_refused _ (reverse (take (c.loop-k.k - 1) xs)) _ _ _ _ _ _ p c.in_err-put.was in
     let e : c.loop-k.k - 1 + 1 ≡ c.loop-k.k = omega arith in
     let q = err_from_is_err_and c.from-residual.result c.from-residual.ensures.1 in
     rw (q.1, q.2)

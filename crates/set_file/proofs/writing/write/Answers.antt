@@ -7,12 +7,12 @@ pub returns : goal.returns
 returns c =
     let n = c.args.n in
     let out = c.args.out.now in
-    let r = c.write-all.result in
+    let r = c.write_all.result in
     let e = c.first.ensures in
-    let answer = c.write-all.ensures.answer ∙ ap (λ rows. written n rows (length out)) e in
-    let after = c.write-all.ensures.after ∙ ap (λ rows. left n rows out) e in
+    let answer = c.write_all.ensures.answer ∙ ap (λ rows. written n rows (length out)) e in
+    let after = c.write_all.ensures.after ∙ ap (λ rows. left n rows out) e in
     record {
       answer = answer;
       after = after;
-      again = read_back n _ out r _ answer after (subst (λ rows. IfOk r (λ _. Whole rows (length rows))) e c.write-all.ensures.whole);
+      again = read_back n _ out r _ answer after (subst (λ rows. IfOk r (λ _. Whole rows (length rows))) e c.write_all.ensures.whole);
     }

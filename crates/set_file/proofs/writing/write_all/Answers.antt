@@ -27,9 +27,9 @@ returns c =
     let n = c.args.n in
     let rows = c.args.rows.now in
     let out = c.args.out.now in
-    let ok : write_vetting n rows (length out) ≡ Ok tt = sym c.vet.ensures.vetting ∙ c.in-ok-vet.was in
+    let ok : write_vetting n rows (length out) ≡ Ok tt = sym c.vet.ensures.vetting ∙ c.in_ok-vet.was in
     record {
       answer = answered n c.width-width.result rows (length out) c.width-width.ensures ok;
-      after = put n c.width-width.result rows out _ _ c.width-width.ensures ok c.write-rows.ensures.long c.write-head.ensures c.write-rows.ensures.after;
-      whole = c.in-ok-vet.ensures.whole;
+      after = put n c.width-width.result rows out _ _ c.width-width.ensures ok c.write_rows.ensures.long c.write_head.ensures c.write_rows.ensures.after;
+      whole = c.in_ok-vet.ensures.whole;
     }

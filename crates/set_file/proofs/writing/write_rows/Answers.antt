@@ -7,14 +7,14 @@ use Rattle.set_file.proofs.Rows.{one_more}
 use Rattle.set_file.proofs.Written.{row_more}
 use Rattle.set_file.proofs.writing.write_rows.Goals as goal
 
-pub overflow-add-at : goal.overflow-add-at
-overflow-add-at c = omega (arith, one_more c.loop-row.row-index c.args.width _ c.loop-row-test.true)
+pub overflow_add-at : goal.overflow_add-at
+overflow_add-at c = omega (arith, one_more c.loop-row.row-index c.args.width _ c.loop-row-test.true)
 
-pub slice-bounds-copy-from-slice-end : goal.slice-bounds-copy-from-slice-end
-slice-bounds-copy-from-slice-end c = omega (arith, one_more c.loop-row.row-index c.args.width _ c.loop-row-test.true)
+pub slice_bounds-copy_from_slice-end : goal.slice_bounds-copy_from_slice-end
+slice_bounds-copy_from_slice-end c = omega (arith, one_more c.loop-row.row-index c.args.width _ c.loop-row-test.true)
 
-pub overflow-add-at-in-loop-row : goal.overflow-add-at-in-loop-row
-overflow-add-at-in-loop-row c = omega (arith, one_more c.loop-row.row-index c.args.width _ c.loop-row-test.true)
+pub overflow_add-at-in-loop-row : goal.overflow_add-at-in-loop-row
+overflow_add-at-in-loop-row c = omega (arith, one_more c.loop-row.row-index c.args.width _ c.loop-row-test.true)
 
 pub loop-row-preserved : goal.loop-row-preserved
 loop-row-preserved c =
@@ -22,8 +22,8 @@ loop-row-preserved c =
     let w = c.args.width in
     let o = one_more i w (length c.args.rows.now) c.loop-row-test.true in
     let k : c.loop-row.at + w - c.loop-row.at ≡ w = omega arith in
-    let z : length c.copy-from-slice.new.self ≡ w = c.copy-from-slice.ensures.len ∙ simp (length-take, length-drop) (omega arith) in
-    let r = row_more c.args.out.now c.args.rows.now w (omega arith) i c.loop-row.at _ _ record { bytes = [] } c.loop-row.out c.copy-from-slice.new.self c.loop-row-test.true c.loop-row.invariant.0 k c.loop-row.invariant.1 c.loop-row.invariant.2 c.copy-from-slice.ensures.after (omega arith) z in
+    let z : length c.copy_from_slice.new.self ≡ w = c.copy_from_slice.ensures.len ∙ simp (length-take, length-drop) (omega arith) in
+    let r = row_more c.args.out.now c.args.rows.now w (omega arith) i c.loop-row.at _ _ record { bytes = [] } c.loop-row.out c.copy_from_slice.new.self c.loop-row-test.true c.loop-row.invariant.0 k c.loop-row.invariant.1 c.loop-row.invariant.2 c.copy_from_slice.ensures.after (omega arith) z in
     (omega (arith, add-mul i 1 w), r.0, r.1)
 
 pub returns : goal.returns

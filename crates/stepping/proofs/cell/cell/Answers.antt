@@ -15,11 +15,11 @@ returns c =
     let f : Span → Cell = λ s. record { phase = get_or bs (3 * p) 0; remaining = s } in
     record {
       value =
-          ap f (c.span.ensures ∙ ap span_of c.from-be-bytes-ticks.ensures)
+          ap f (c.span.ensures ∙ ap span_of c.from_be_bytes-ticks.ensures)
           ∙ sym (read_cell p bs (omega (arith, c.from-at.ensures)))
           ∙ ap (nth_cell (cells_of bs)) c.from-at.ensures;
       short =
           let P : Span → Type 0 = Short in
-          subst P (sym c.span.ensures) (short_read c.from-be-bytes-ticks.result (search rules));
+          subst P (sym c.span.ensures) (short_read c.from_be_bytes-ticks.result (search rules));
       whole = search rules;
     }

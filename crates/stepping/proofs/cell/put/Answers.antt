@@ -10,9 +10,9 @@ returns c =
     let bs = c.args.row.now.bytes in
     let p = c.from-at.result in
     let v = c.args.cell in
-    let b = c.to-be-bytes.result in
+    let b = c.to_be_bytes.result in
     let t : get_or b 0 0 * 256 + get_or b 1 0 ≡ c.ticks.result =
-    ap (λ (l : List ℕ). get_or l 0 0 * 256 + get_or l 1 0) c.to-be-bytes.ensures ∙ omega arith in
+    ap (λ (l : List ℕ). get_or l 0 0 * 256 + get_or l 1 0) c.to_be_bytes.ensures ∙ omega arith in
     let f : Span → Cell = λ s. record { phase = v.phase; remaining = s } in
     put_cell p bs v.phase (get_or b 0 0) (get_or b 1 0) (omega (arith, c.from-at.ensures))
     ∙ ap (λ s. set (cells_of bs) p (f s)) (ap span_of t ∙ c.ticks.ensures)

@@ -12,7 +12,7 @@ pub put-requires : goal.put-requires
 put-requires g c = record {
   within = omega (arith, (g.met.B.Bank.limits c.args.bank.now).few);
   short =
-      short_delayed c.args.d c.cell.result c.after-delay-after.result c.after-delay-after.ensures
+      short_delayed c.args.d c.cell.result c.after_delay-after.result c.after_delay-after.ensures
       c.cell.ensures.short;
 }
 
@@ -22,8 +22,8 @@ loop-part-init g c = made_none (λ _ d. cell_delay c.args.d d) (cells_of c.args.
 pub loop-part-preserved : goal.loop-part-preserved
 loop-part-preserved g c =
     made_more (λ _ d. cell_delay c.args.d d) c.loop-part.part (cells_of c.args.row.now.bytes)
-    (cells_of c.loop-part.row.bytes) (cells_of c.put.new.row.bytes) c.after-delay-after.result
-    c.loop-part.invariant (c.after-delay-after.ensures ∙ ap (cell_delay c.args.d) c.cell.ensures.value)
+    (cells_of c.loop-part.row.bytes) (cells_of c.put.new.row.bytes) c.after_delay-after.result
+    c.loop-part.invariant (c.after_delay-after.ensures ∙ ap (cell_delay c.args.d) c.cell.ensures.value)
     c.put.ensures
 
 pub returns : goal.returns

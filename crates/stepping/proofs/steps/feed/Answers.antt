@@ -11,5 +11,5 @@ put-requires g c =
       within = omega (arith, limits.few);
       short =
           short_input F limits c.args.wire.target here c.args.wire.input c.cell.result
-          c.after-input-after.result c.after-input-after.ensures c.cell.ensures.short;
+          c.after_input-after.result c.after_input-after.ensures c.cell.ensures.short;
     }

@@ -8,7 +8,7 @@ use Rattle.stepping.proofs.Bytes.{sixteen_cells}
 use Rattle.stepping.proofs.Moves.{silent_step, sending_step, no_step}
 use Rattle.stepping.proofs.Shorts.{short_fresh}
 use Rattle.stepping.proofs.steps.internal_step.Goals as goal
-use Rattle.stepping.proofs.steps.internal_step.Goals.{in-Sends, in-default}
+use Rattle.stepping.proofs.steps.internal_step.Goals.{in-Sends, in_default}
 
 pub put-requires : goal.put-requires
 put-requires g c =
@@ -39,12 +39,12 @@ returns-after-output g c =
           sending_step F W p cs c.cell-before.result c.after_internal.result c.cell-before.ensures.value
           c.after_internal.ensures here there w.in-Sends.number (cells_of w.send.new.row.bytes) ds es
           w.in-Sends.ensures w.send.ensures (ap cells w.row-is) c.put.ensures
-      | in-default w ↦
+      | in_default w ↦
           silent_step F W p cs c.cell-before.result c.after_internal.result c.cell-before.ensures.value
-          c.after_internal.ensures here there ds es w.in-default.ensures (ap cells w.row-is) c.put.ensures
+          c.after_internal.ensures here there ds es w.in_default.ensures (ap cells w.row-is) c.put.ensures
     ]
 
-pub returns-else-part-part-count : goal.returns-else-part-part-count
-returns-else-part-part-count g c =
+pub returns-else-part-part_count : goal.returns-else-part-part_count
+returns-else-part-part_count g c =
     no_step (g.B.Bank.family c.args.bank.now) (wiring_of c.args.wiring.now) c.args.part
     (cells_of c.args.row.now.bytes) (omega arith)

@@ -5,17 +5,17 @@ use Rattle.stepping.proofs.Bytes.{sixteen_cells}
 use Rattle.stepping.proofs.Moves.{due_here, due_past}
 use Rattle.stepping.proofs.steps.is_due.Goals as goal
 
-pub returns-then-part-part-count : goal.returns-then-part-part-count
-returns-then-part-part-count g c =
+pub returns-then-part-part_count : goal.returns-then-part-part_count
+returns-then-part-part_count g c =
     let few = (g.met.B.Bank.limits c.args.bank.now).few in
     let cs = cells_of c.args.row.now.bytes in
     let there : c.args.part < length cs =
     omega (arith, sixteen_cells c.args.row.now.bytes c.cell.ensures.whole) in
-    c.is-spent.ensures
+    c.is_spent.ensures
     ∙ due_here (g.B.Bank.family c.args.bank.now) cs c.args.part c.cell.result c.cell.ensures.value
     (omega arith) there
 
-pub returns-else-part-part-count : goal.returns-else-part-part-count
-returns-else-part-part-count g c =
-    le-ltb c.args.part c.part-count.result c.if-part-part-count.false
+pub returns-else-part-part_count : goal.returns-else-part-part_count
+returns-else-part-part_count g c =
+    le-ltb c.args.part c.part_count.result c.if-part-part_count.false
     ∙ due_past (g.B.Bank.family c.args.bank.now) (cells_of c.args.row.now.bytes) c.args.part (omega arith)

@@ -6,19 +6,19 @@ use Rattle.stepping.proofs.steps.send.Goals as goal
 pub loop-wire-preserved : goal.loop-wire-preserved
 loop-wire-preserved g c =
     let F = g.B.Bank.family c.args.bank.now in
-    let ws = c.from-source-wires.result.now in
+    let ws = c.from_source-wires.result.now in
     feed_next F ws c.loop-wire.wire-index (cells_of c.loop-wire.row.bytes)
     (given_by F ws (cells_of c.args.row.now.bytes)) c.loop-wire.invariant (cells_of c.feed.new.row.bytes)
     c.loop-wire-test.true
-    (lone_wires c.args.wiring.now c.args.source c.args.output ws c.from-source-wires.ensures)
+    (lone_wires c.args.wiring.now c.args.source c.args.output ws c.from_source-wires.ensures)
     c.feed.ensures
 
 pub returns : goal.returns
 returns g c =
     let F = g.B.Bank.family c.args.bank.now in
-    let ws = c.from-source-wires.result.now in
+    let ws = c.from_source-wires.result.now in
     let cs = cells_of c.args.row.now.bytes in
     let ds = cells_of c.loop-wire.row.bytes in
     feed_from F (wiring_of c.args.wiring.now) c.args.source c.args.output ws cs ds
     (feed_end F ws c.loop-wire.wire-index ds (given_by F ws cs) c.loop-wire.invariant c.loop-wire-test.false)
-    c.from-source-wires.ensures
+    c.from_source-wires.ensures

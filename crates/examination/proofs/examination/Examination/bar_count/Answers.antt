@@ -5,4 +5,4 @@ use Rattle.examination.proofs.examination.Examination.bar_count.Goals as goal
 pub returns : goal.returns
 returns g c =
     let x = c.args.self.now in
-    c.bars-kept.ensures ∙ sym (bars_count x.standing.bars x.bars x.standing.few)
+    c.bars_kept.ensures ∙ sym (bars_count x.standing.bars x.bars x.standing.few)

@@ -7,4 +7,4 @@ pub returns : goal.returns
 returns g c =
     let x = c.args.self.now in
     c.judge.ensures.answer
-    ∙ ap (λ bars. judgement (g.B.Bank.family x.bank) (wiring_of x.wiring) bars c.args.file.now) c.standing-bars.ensures
+    ∙ ap (λ bars. judgement (g.B.Bank.family x.bank) (wiring_of x.wiring) bars c.args.file.now) c.standing_bars.ensures

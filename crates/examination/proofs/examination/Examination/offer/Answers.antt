@@ -18,8 +18,8 @@ returns g c =
     let x = c.args.self.now in
     let F = g.B.Bank.family x.bank in
     let file = c.args.file.now in
-    let bytes = typed_bytes file c.type-inv.file in
-    let y = c.take-proof.ensures in
+    let bytes = typed_bytes file c.type_inv.file in
+    let y = c.take_proof.ensures in
     record {
       answer = y.answer;
       exactly =
@@ -30,5 +30,5 @@ returns g c =
           (judging_tells F (held x).wiring (held x).bars file (All-drop _ 6 file bytes));
       state = y.state;
       bank = y.bank;
-      leads = leads_by g.B.Bank.family x c.take-proof.new.self (offer_call file c.take-proof.result) y.state (bytes, y.answer);
+      leads = leads_by g.B.Bank.family x c.take_proof.new.self (offer_call file c.take_proof.result) y.state (bytes, y.answer);
     }

@@ -5,8 +5,8 @@ use Rattle.examination.proofs.examination.Examination.take_bar.Goals as goal
 pub add-requires : goal.add-requires
 add-requires g c =
     let x = c.args.self.now in
-    let keeps = c.in-ok-vet.ensures.exactly.0 refl in
-    let same = ap length c.standing-bars.ensures in
+    let keeps = c.in_ok-vet.ensures.exactly.0 refl in
+    let same = ap length c.standing_bars.ensures in
     let count = bars_count x.standing.bars x.bars x.standing.few in
     let room = keeps.room in
     record { room = omega arith; few = keeps.form.few }

@@ -5,11 +5,11 @@ use Rattle.examination.proofs.examination.Examination.wire.Goals as goal
 
 pub returns : goal.returns
 returns g c =
-    let y = c.take-wiring.ensures in
+    let y = c.take_wiring.ensures in
     record {
       answer = y.answer;
       state = y.state;
       bank = y.bank;
-      leads = leads_by g.B.Bank.family c.args.self.now c.take-wiring.new.self
-          (wire_call c.args.file.now c.take-wiring.result) y.state (typed_bytes c.args.file.now c.type-inv.file, y.answer);
+      leads = leads_by g.B.Bank.family c.args.self.now c.take_wiring.new.self
+          (wire_call c.args.file.now c.take_wiring.result) y.state (typed_bytes c.args.file.now c.type_inv.file, y.answer);
     }
