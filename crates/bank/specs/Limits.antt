@@ -1,8 +1,8 @@
 -- The families of these banks are within the limits.
-use Rattle.std.specs.Prelude.{◌≡◌, ℕ, ◌+◌, ◌-◌, ◌<◌, ◌≤◌, true, false, cond, Some, None, Option, nat_lt}
+use Rattle.std.specs.Prelude.{◌≡◌, ◌-◌, true, Some, None, Option, nat_lt}
 use Rattle.std.proofs.Common.{arith, rules}
 use Rattle.std.proofs.lemmas.Bool.{cond_both, leb-true, ltb-true, ltb-false}
-use Rattle.fddevs.specs.Machine.{Machine, Family, WithinLimits, PartWithin, idle_family}
+use Rattle.fddevs.specs.Machine.{Family, WithinLimits, PartWithin, idle_family}
 use Rattle.bank.specs.OrIdle.{or_idle}
 use Rattle.bank.specs.Pair.{joined, few, pair_family}
 

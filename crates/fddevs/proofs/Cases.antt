@@ -1,11 +1,10 @@
 -- The worked cases hold.
-use Rattle.std.proofs.Common.{◌≡◌, ℕ, ◌≤◌, refl, arith, lit<, lit≤}
-use Rattle.fddevs.specs.declared.part.PartMove.{PartMove}
-use Rattle.fddevs.specs.declared.part.PartMove.TheVariants.{Input, Internal, Delay}
+use Rattle.std.proofs.Common.{ℕ, refl, arith, lit<, lit≤}
+use Rattle.fddevs.specs.declared.part.PartMove.TheVariants.{Delay}
 use Rattle.fddevs.specs.declared.part.PartState.{PartState}
 use Rattle.fddevs.specs.Machine.{Machine}
 use Rattle.fddevs.specs.Part.{PartStep, takes, expires, waits, CanDelay}
-use Rattle.fddevs.specs.Cases.{keeper, KeptLifespans}
+use Rattle.fddevs.specs.Cases.{KeptLifespans}
 
 delayed : {m : Machine} {c : PartState} {d : ℕ} {t : PartState} → PartStep m c (Delay d) t → CanDelay d c
 delayed (waits d h) = h

@@ -3,7 +3,6 @@ use Rattle.std.proofs.Common.{◌≡◌, ℕ, zero, suc, ◌+◌, ◌≤◌, Lis
 use Rattle.std.specs.List.{AllByRecursion as All}
 use Rattle.fddevs.specs.declared.part.Span.{Span}
 use Rattle.fddevs.specs.declared.part.Span.TheVariants.{Ticks, Unlimited}
-use Rattle.fddevs.specs.declared.part.PartState.{PartState}
 use Rattle.fddevs.specs.declared.scheme.Move.{Move}
 use Rattle.fddevs.specs.declared.scheme.Move.TheVariants.{Delay}
 use Rattle.fddevs.specs.Part.{Within, CanDelay, after_delay}

@@ -1,5 +1,5 @@
 -- What the answers of a bank tell of its family.
-use Rattle.std.proofs.Common.{◌≡◌, ℕ, Bool, true, false, ◌&&◌, ltb, Some, None, Option, refl, arith}
+use Rattle.std.proofs.Common.{◌≡◌, ℕ, Bool, true, false, ◌&&◌, ltb, Some, refl, arith}
 use Rattle.std.proofs.lemmas.Bool.{and_parts, and_from, ltb-true, lt-ltb}
 use Rattle.fddevs.specs.declared.part.External.{External}
 use Rattle.fddevs.specs.Machine.{Family, WithinLimits, when, has_phase, external_at}

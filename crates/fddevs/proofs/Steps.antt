@@ -1,5 +1,5 @@
 -- A state's row takes the steps that the state takes.
-use Rattle.std.proofs.Common.{◌≡◌, ℕ, zero, suc, Bool, true, false, cond, eqb, ◌⊎◌, List, [], ◌∷◌, map, Some, None, Option, sym, refl, ap, ◌∙◌, subst, ap₂, inl, inr}
+use Rattle.std.proofs.Common.{◌≡◌, ℕ, zero, suc, Bool, true, false, cond, eqb, List, [], ◌∷◌, map, Some, None, Option, sym, refl, ap, ◌∙◌, subst, ap₂, inl, inr}
 use Rattle.std.specs.List.{AllByRecursion as All}
 use Rattle.std.proofs.lemmas.Bool.{leb-true, le-leb, ltb-true, lt-ltb, and_parts, and_from, false≢true}
 use Rattle.fddevs.specs.declared.part.Cell.{Cell}
@@ -11,10 +11,10 @@ use Rattle.fddevs.specs.declared.part.PartState.{PartState}
 use Rattle.fddevs.specs.declared.scheme.Move.{Move}
 use Rattle.fddevs.specs.declared.scheme.Move.TheVariants.{Outer, Internal, Delay}
 use Rattle.fddevs.specs.Machine.{Machine}
-use Rattle.fddevs.specs.Part.{Within, Due, CanDelay, begin, led, after_input, after_internal, after_delay}
+use Rattle.fddevs.specs.Part.{Within, Due, CanDelay, begin, led, after_internal, after_delay}
 use Rattle.fddevs.specs.Scheme.{Scheme, State, Step, comes, fires, elapses, Run, stop, step, Enters, Entered, outside, given, each, at, wired, heard, sent, after_outer, after_part}
 use Rattle.fddevs.specs.Rows.{cell, row, cell_given, cell_internal, cell_delay, lasts, is_due, every, row_after, row_allows}
-use Rattle.fddevs.specs.Laws.{InTime, Allowed, RowSteps, RowsAgree}
+use Rattle.fddevs.specs.Laws.{InTime, Allowed, RowsAgree}
 use Rattle.fddevs.proofs.Cells.{of_fresh, of_input, of_delay, wait_forth, wait_back, due_forth, due_back, none_within}
 
 -- rows of results

@@ -1,5 +1,5 @@
 -- Lemmas on findings: a test of every number below a bound, the first number that fails it, one finding after another.
-use Rattle.std.proofs.Common.{◌≡◌, ℕ, zero, suc, ◌+◌, ◌*◌, ◌<◌, ◌≤◌, Bool, true, false, cond, ◌⊎◌, is_ok, Some, None, Ok, Err, Decides, Option, sym, refl, ap, ◌∙◌, inl, inr, ⊎_elim, le_refl, mul-le-mul_right, suc-mul, arith}
+use Rattle.std.proofs.Common.{◌≡◌, ℕ, zero, suc, ◌+◌, ◌*◌, ◌<◌, ◌≤◌, Bool, true, false, ◌⊎◌, is_ok, Some, None, Ok, Err, Decides, Option, sym, refl, ap, ◌∙◌, inl, inr, ⊎_elim, le_refl, mul-le-mul_right, suc-mul, arith}
 use Rattle.std.proofs.lemmas.Bool.{cases_Bool, both_ways, cases_lt, false≢true}
 use Rattle.std.proofs.lemmas.Bool.Decides.{Decides-below_and}
 use Rattle.fddevs.specs.declared.refusal.Refusal.{Refusal}

@@ -4,7 +4,6 @@ use Rattle.fddevs.specs.declared.part.Span.{Span}
 use Rattle.fddevs.specs.declared.part.Span.TheVariants.{Ticks, Unlimited}
 use Rattle.fddevs.specs.declared.part.Mark.{Mark}
 use Rattle.fddevs.specs.declared.part.Mark.TheVariants.{Keep, Restart}
-use Rattle.fddevs.specs.declared.part.External.{External}
 use Rattle.fddevs.specs.declared.part.PartState.{PartState}
 use Rattle.fddevs.specs.declared.part.PartMove.{PartMove}
 use Rattle.fddevs.specs.declared.part.PartMove.TheVariants.{Input, Internal, Delay}

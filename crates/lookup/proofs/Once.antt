@@ -1,5 +1,5 @@
 -- Among rows that rise a record is found at one place alone, whatever the hint.
-use Rattle.std.proofs.Common.{◌≡◌, ℕ, ◌<◌, List, Some, None, Option, Less, Equal, sym, refl, ap, ◌∙◌, inl, inr, arith}
+use Rattle.std.proofs.Common.{◌≡◌, ℕ, ◌<◌, List, Some, None, Option, Equal, sym, refl, ap, ◌∙◌, inl, inr, arith}
 use Rattle.std.proofs.lemmas.Bool.{cases_order}
 use Rattle.book.specs.Records.{byte_order}
 use Rattle.book.specs.Orders.{bytes_total}

@@ -5,7 +5,7 @@ use Rattle.book.specs.Records.{byte_order}
 use Rattle.book.specs.Orders.{bytes_total}
 use Rattle.book.proofs.Places.{above, below}
 use Rattle.set_file.specs.Layout.{stretch}
-use Rattle.lookup.specs.Finding.{Rising, Between, Narrowed, Nowhere, Found}
+use Rattle.lookup.specs.Finding.{Between, Narrowed, Nowhere, Found}
 
 module _ (w : ℕ) (body : List ℕ) (n : ℕ) (x : List ℕ) where
   -- at the start x can stand at any row

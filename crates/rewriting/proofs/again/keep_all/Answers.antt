@@ -1,4 +1,4 @@
-use Rattle.std.proofs.Common.{◌≡◌, ◌+◌, ◌-◌, [], ◌∷◌, reverse, get_or, take, sym, ap, ◌∙◌, arith}
+use Rattle.std.proofs.Common.{◌≡◌, ◌+◌, ◌-◌, [], reverse, take, sym, ap, ◌∙◌, arith}
 use Rattle.std.proofs.lemmas.List.{take_all}
 use Rattle.std.proofs.lemmas.Result.{err_from_is_err_and}
 use Rattle.rewriting.specs.Again.{keep_all}
@@ -32,7 +32,7 @@ returns-in_err-put c =
     let f = last_first xs (c.loop-k.k - 1) none (omega arith) in
     let g = is_refused _ (reverse (take (c.loop-k.k - 1) xs)) _ _ _ _ _ _ p c.in_err-put.was in
     let e : c.loop-k.k - 1 + 1 ≡ c.loop-k.k = omega arith in
-    let q = err_from_is_err_and c.from-residual.result c.from-residual.ensures.1 in
+    let q = err_from_is_err_and c.from_residual.result c.from_residual.ensures.1 in
     rw (q.1, q.2)
     (sym g
     ∙ ap (λ l. keep_all l c.loop-k.book.list.now c.loop-k.book.count) (sym f ∙ ap (λ j. reverse (take j xs)) e)

@@ -1,4 +1,4 @@
-use Rattle.std.proofs.Common.{◌+◌, ◌-◌, arith}
+use Rattle.std.proofs.Common.{◌-◌, arith}
 use Rattle.set_file.specs.Layout.{front}
 use Rattle.lookup.proofs.Search.{if_less, if_greater, found_here}
 use Rattle.lookup.proofs.rows.Rows.downward.Goals as goal
