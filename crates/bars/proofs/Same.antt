@@ -1,6 +1,5 @@
 -- Two bars are the same, and a bar stands, exactly where the tests say so.
-use Rattle.std.proofs.Common.{◌≡◌, ℕ, Bool, true, false, cond, ◌&&◌, eqb, List, [], ◌∷◌, Decides, refl, ap, inl, inr, arith}
-use Rattle.std.proofs.lemmas.Bool.Decides.{same_from_decides}
+use Rattle.std.proofs.Common.{◌≡◌, ℕ, ◌&&◌, eqb, List, [], ◌∷◌, Decides, refl, ap, arith}
 use Rattle.std.proofs.lemmas.Bool.{and_parts, and_from, eqb-true, eq-eqb, false≢true}
 use Rattle.bars.specs.Bars.{same_bar}
 use Rattle.bars.specs.declared.condition.Condition.{Condition}
