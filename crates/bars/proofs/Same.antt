@@ -1,4 +1,4 @@
--- Two bars are the same, and a bar stands, exactly where the tests say so.
+-- Two bars are the same exactly where the test says so.
 use Rattle.std.proofs.Common.{◌≡◌, ℕ, ◌&&◌, eqb, List, [], ◌∷◌, Decides, refl, ap, arith}
 use Rattle.std.proofs.lemmas.Bool.{and_parts, and_from, eqb-true, eq-eqb, false≢true}
 use Rattle.bars.specs.Bars.{same_bar}
