@@ -8,9 +8,6 @@ returns-then-not-passes g c =
     breach_found c.args.rule (g.B.Bank.family c.args.bank.now) (draft c.args.outer c.args.wires.now)
     c.loop-k.k (omega arith) c.loop-k.invariant c.if-not-passes.ensures
 
-pub loop-k-preserved : goal.loop-k-preserved
-loop-k-preserved g c = below_more _ _ c.loop-k.invariant (sym c.if-not-passes.ensures)
-
 pub returns : goal.returns
 returns g c =
     none_found c.args.rule (g.B.Bank.family c.args.bank.now) (draft c.args.outer c.args.wires.now)

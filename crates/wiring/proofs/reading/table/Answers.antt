@@ -6,14 +6,6 @@ use Rattle.wiring.specs.File.{wire_at, wire_count}
 use Rattle.wiring.specs.Wires.{no_wire}
 use Rattle.wiring.proofs.reading.table.Goals as goal
 
-pub loop-k-preserved : goal.loop-k-preserved
-loop-k-preserved c =
-    let l = c.loop-k in (
-      length-set l.table l.k c.wire.result ∙ l.invariant.0,
-      rw c.wire.ensures
-          (fill_by_more (λ (k : ℕ). wire_at c.args.file.now (5 + 4 * k)) l.table l.k no_wire (omega arith) l.invariant.1),
-    )
-
 pub returns : goal.returns
 returns c =
     let l = c.loop-k in
