@@ -1,4 +1,4 @@
-use Rattle.std.proofs.Common.{sym, arith, below_more}
+use Rattle.std.proofs.Common.{arith}
 use Rattle.wiring.specs.Reading.{draft}
 use Rattle.wiring.proofs.Kept.{breach_found, none_found}
 use Rattle.wiring.proofs.check.first_breach.Goals as goal

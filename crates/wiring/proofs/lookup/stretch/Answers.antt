@@ -1,6 +1,6 @@
 use Rattle.std.proofs.Common.{ap, ◌∙◌}
 use Rattle.wiring.specs.Wires.{from_source}
-use Rattle.wiring.proofs.Orders.{in_turn, stretched}
+use Rattle.wiring.proofs.Orders.{stretched}
 use Rattle.wiring.proofs.lookup.stretch.Goals as goal
 
 pub returns : goal.returns
