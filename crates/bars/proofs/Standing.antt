@@ -1,7 +1,7 @@
 -- The bars that stand, one after another.
-use Rattle.std.proofs.Common.{◌≡◌, ℕ, ◌+◌, ◌<◌, ◌≤◌, false, ◌||◌, List, length, get_or, drop, Some, None, Decides, sym, refl, ap, ◌∙◌, arith}
+use Rattle.std.proofs.Common.{◌≡◌, ℕ, ◌<◌, ◌≤◌, List, length, get_or, Some, None, Decides, sym, refl, ap, ◌∙◌, arith}
 use Rattle.std.specs.List.{ContainsAt as Has, slice_get}
-use Rattle.std.proofs.lemmas.List.{at_drop_more, at_drop_all, length-map, length-take-le, get_or-map}
+use Rattle.std.proofs.lemmas.List.{length-map, length-take-le, get_or-map}
 use Rattle.std.proofs.lemmas.Option.{slice_get-get_or, slice_get_past}
 use Rattle.std.proofs.lemmas.Bool.Decides.{Decides-by_or}
 use Rattle.bars.specs.Bars.{same_bar, stands}
@@ -10,17 +10,6 @@ use Rattle.bars.specs.declared.bar.Bar.{Bar}
 use Rattle.bars.specs.declared.bars.Bars.{Bars}
 use Rattle.bars.specs.declared.condition.Condition.{Condition}
 use Rattle.bars.proofs.Same.{same_decides}
-
-pub stands_more : (bars : List Bar) (cs : List Condition) (i : ℕ) (b : Bar) → i < length bars → b ≡ get_or bars i b →
-    stands (all_conditions (drop i bars)) cs
-    ≡ (same_bar (conditions_of b) cs || stands (all_conditions (drop (i + 1) bars)) cs)
-stands_more bars cs i b h is =
-    at_drop_more (λ xs. stands (all_conditions xs) cs) bars i b h
-    ∙ ap (λ a. same_bar (conditions_of a) cs || stands (all_conditions (drop (i + 1) bars)) cs) (sym is)
-
-pub stands_none : (bars : List Bar) (cs : List Condition) (i : ℕ) → length bars ≤ i →
-    stands (all_conditions (drop i bars)) cs ≡ false
-stands_none bars cs i h = at_drop_all (λ xs. stands (all_conditions xs) cs) bars i h
 
 pub stands_decides : (bars : List (List Condition)) (cs : List Condition) → Decides (stands bars cs) (Has bars cs)
 stands_decides bars cs =

@@ -1,4 +1,6 @@
 // Bars: the combinations of phases that must never be entered.
+#![tactic(auto)]
+
 pub mod bar;
 pub mod bars;
 pub mod condition;

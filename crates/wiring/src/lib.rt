@@ -1,4 +1,6 @@
 // The wiring of a panel: its file, and the look-ups of its wires.
+#![tactic(auto)]
+
 mod check;
 pub mod laws;
 pub mod lookup;

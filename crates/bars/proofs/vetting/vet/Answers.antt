@@ -10,9 +10,9 @@ returns g c =
     let F = g.B.Bank.family c.args.bank.now in
     let bars = all_conditions c.args.standing.now in
     let cs = c.args.conditions.now in
-    let same = sym c.check-all.ensures in
+    let same = sym c.check_all.ensures in
     record {
-      answer = c.check-all.ensures;
+      answer = c.check_all.ensures;
       exactly = subst (λ (v : Vetted). (v ≡ Ok tt) ↔ KeepsBarRules F bars cs) same (accepts_exactly F bars cs);
       tells = subst (Tells (Fault F bars cs)) same (vetting_tells F bars cs);
     }

@@ -4,8 +4,8 @@ use Rattle.wiring.specs.declared.rule.Rule.TheVariants.{Order}
 use Rattle.wiring.proofs.Kept.{kept_ascends}
 use Rattle.wiring.proofs.check.check_wires.Goals as goal
 
-pub check-rule-requires-2 : goal.check-rule-requires-2
-check-rule-requires-2 g c =
+pub check_rule-requires-2 : goal.check_rule-requires-2
+check_rule-requires-2 g c =
     let F = g.B.Bank.family c.args.bank.now in
     let W = draft c.args.outer c.args.wires.now in
     let passed : kept Order F W ≡ Ok tt = search rules in

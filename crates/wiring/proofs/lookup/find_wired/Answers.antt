@@ -5,5 +5,5 @@ use Rattle.wiring.proofs.lookup.find_wired.Goals as goal
 
 pub returns : goal.returns
 returns c =
-    c.find-input.ensures ∙ ap (λ ws. input_to ws c.args.target) c.stretch.ensures
+    c.find_input.ensures ∙ ap (λ ws. input_to ws c.args.target) c.stretch.ensures
     ∙ wired_from c.args.source c.args.output c.args.target c.args.wires.now

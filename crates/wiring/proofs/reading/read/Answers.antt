@@ -5,14 +5,19 @@ use Rattle.wiring.specs.Reading.{wires_vetting}
 use Rattle.wiring.proofs.Kept.{vetted_ascends, vetted_apart}
 use Rattle.wiring.proofs.reading.read.Goals as goal
 
-pub invariant-of-result : goal.invariant-of-result
-invariant-of-result g c =
+pub invariant_of-result : goal.invariant_of-result
+invariant_of-result g c =
     let f = c.args.file.now in
     let F = g.B.Bank.family c.args.bank.now in
     let W : Wiring = record {
       outer_inputs = (held f).outer_inputs;
       outer_outputs = (held f).outer_outputs;
-      wires = take c.wire-count-count.result c.table-table.result;
+      wires = take c.wire_count-count.result c.table-table.result;
     } in
     let passed : wires_vetting F W ≡ Ok tt = search rules in
-    (search rules, (search rules, (vetted_ascends F W (ap is_ok passed), (vetted_apart F W (ap is_ok passed), tt))))
+    record {
+      few = search rules;
+      whole = search rules;
+      ordered = vetted_ascends F W (ap is_ok passed);
+      apart = vetted_apart F W (ap is_ok passed);
+    }

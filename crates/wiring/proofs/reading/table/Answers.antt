@@ -1,18 +1,9 @@
 use Rattle.std.proofs.Common.{ℕ, ◌+◌, ◌*◌, ◌≤◌, length, take, ◌∙◌, arith}
-use Rattle.std.proofs.lemmas.List.{length-set, length-take-le, get_or-take}
-use Rattle.std.proofs.lemmas.List.Edits.{fill_by_more}
+use Rattle.std.proofs.lemmas.List.{length-take-le, get_or-take}
 use Rattle.std.proofs.lemmas.List.FromFn.{fill_by_all}
 use Rattle.wiring.specs.File.{wire_at, wire_count}
 use Rattle.wiring.specs.Wires.{no_wire}
 use Rattle.wiring.proofs.reading.table.Goals as goal
-
-pub loop-k-preserved : goal.loop-k-preserved
-loop-k-preserved c =
-    let l = c.loop-k in (
-      length-set l.table l.k c.wire.result ∙ l.invariant.0,
-      rw c.wire.ensures
-          (fill_by_more (λ (k : ℕ). wire_at c.args.file.now (5 + 4 * k)) l.table l.k no_wire (omega arith) l.invariant.1),
-    )
 
 pub returns : goal.returns
 returns c =

@@ -1,8 +1,0 @@
-use Rattle.std.proofs.Common.{length, ap, ◌∙◌}
-use Rattle.std.proofs.lemmas.List.{take_at}
-use Rattle.bars.proofs.bar.compare.filled.Goals as goal
-
-pub returns : goal.returns
-returns c =
-    let same = c.copy-from-slice.ensures.after in
-    take_at c.copy-from-slice.new.self _ _ (ap length same) ∙ same
