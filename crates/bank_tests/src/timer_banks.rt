@@ -4,7 +4,7 @@ use bank::pair::Pair;
 use fddevs::part::{External, Mark, Span};
 use fddevs::refusal::Refusal;
 use std::test::Fail;
-use timers::bank::make;
+use timers::timer_bank::make;
 use timers::setting::Setting;
 use timers::vetting::vet;
 

@@ -1,5 +1,7 @@
 // The scheme file and the table bank that reads it.
-pub mod bank;
+#![tactic(auto)]
+
+pub mod table_bank;
 mod records;
 pub mod scheme;
 pub mod section;

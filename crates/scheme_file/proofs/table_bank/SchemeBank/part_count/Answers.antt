@@ -1,7 +1,7 @@
 use Rattle.std.proofs.Common.{vec_items, ◌∙◌, arith}
 use Rattle.scheme_file.proofs.Sections.{sections_len}
 use Rattle.scheme_file.specs.Sound.{sound}
-use Rattle.scheme_file.proofs.bank.SchemeBank.part_count.Goals as goal
+use Rattle.scheme_file.proofs.table_bank.SchemeBank.part_count.Goals as goal
 
 pub overflow-cast-result : goal.overflow-cast-result
 overflow-cast-result c =

@@ -1,6 +1,6 @@
 use Rattle.std.proofs.Common.{vec_items, arith}
 use Rattle.scheme_file.specs.Sound.{sound, found_record}
-use Rattle.scheme_file.proofs.bank.SchemeBank.external.Goals as goal
+use Rattle.scheme_file.proofs.table_bank.SchemeBank.external.Goals as goal
 
 pub record-bytes-requires : goal.record-bytes-requires
 record-bytes-requires c =

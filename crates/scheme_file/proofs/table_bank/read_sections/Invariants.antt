@@ -1,7 +1,7 @@
 use Rattle.std.proofs.Common.{◌≡◌, map, vec_items}
 use Rattle.std.specs.List.{range_with_len}
 use Rattle.scheme_file.specs.File.{head, section_at}
-use Rattle.scheme_file.proofs.bank.read_sections.Given as goal
+use Rattle.scheme_file.proofs.table_bank.read_sections.Given as goal
 
 abbrev pub invariant-loop-k : goal.invariant-loop-k
 invariant-loop-k l =

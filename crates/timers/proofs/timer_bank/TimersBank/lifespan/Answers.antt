@@ -1,6 +1,6 @@
 use Rattle.std.proofs.Common.{vec_items, arith}
 use Rattle.timers.specs.Settings.{times_read}
-use Rattle.timers.proofs.bank.TimersBank.lifespan.Goals as goal
+use Rattle.timers.proofs.timer_bank.TimersBank.lifespan.Goals as goal
 
 pub overflow-cast-result : goal.overflow-cast-result
 overflow-cast-result c =

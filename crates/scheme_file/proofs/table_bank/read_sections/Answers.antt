@@ -3,7 +3,7 @@ use Rattle.std.proofs.lemmas.List.FromFn.{map-range_with_len_more}
 use Rattle.scheme_file.specs.File.{section_at, section_of}
 use Rattle.scheme_file.specs.Heads.{head_more, not_short}
 use Rattle.scheme_file.specs.Sound.{sound, room}
-use Rattle.scheme_file.proofs.bank.read_sections.Goals as goal
+use Rattle.scheme_file.proofs.table_bank.read_sections.Goals as goal
 
 pub bounds-file-1 : goal.bounds-file-1
 bounds-file-1 c = omega (arith, not_short c.args.file.now (sound c.args.file.now c.requires).is_whole)
