@@ -1,8 +1,8 @@
 // The scheme file and the table bank that reads it.
 #![tactic(auto)]
 
-pub mod table_bank;
 mod records;
 pub mod scheme;
 pub mod section;
+pub mod table_bank;
 pub mod vetting;
