@@ -8,8 +8,8 @@ use bank::pair;
 use bank::pair::Pair;
 use scheme_file::table_bank::TableBank;
 use session::command::{Command, Malformed, Source};
-use timers::timer_bank::TimerBank;
 use timers::setting::Setting;
+use timers::timer_bank::TimerBank;
 
 // The banks that the lines so far have made, in the order of the lines.
 #[derive(Drop)]
