@@ -1,4 +1,6 @@
 // Tests of banks on valid and damaged files and settings, and of the lines of a session.
+#![tactic(auto)]
+
 #[cfg(test)]
 mod lines;
 #[cfg(test)]

@@ -1,7 +1,7 @@
 use bank::interface::Bank;
 use fddevs::part::{External, Mark, Output, Span};
 use fddevs::refusal::{Layer, Refusal};
-use scheme_file::bank::make;
+use scheme_file::table_bank::make;
 use scheme_file::vetting::vet;
 use std::process::Abort;
 use std::test::Fail;

@@ -4,8 +4,8 @@ use bank::pair::Pair;
 use fddevs::part::{External, Mark, Span};
 use fddevs::refusal::Refusal;
 use std::test::Fail;
-use timers::bank::make;
 use timers::setting::Setting;
+use timers::timer_bank::make;
 use timers::vetting::vet;
 
 fn of(operate: u64, hold: u64) -> Setting {

@@ -6,10 +6,10 @@ use bank::idle::Idle;
 use bank::interface::Bank;
 use bank::pair;
 use bank::pair::Pair;
-use scheme_file::bank::TableBank;
+use scheme_file::table_bank::TableBank;
 use session::command::{Command, Malformed, Source};
-use timers::bank::TimerBank;
 use timers::setting::Setting;
+use timers::timer_bank::TimerBank;
 
 // The banks that the lines so far have made, in the order of the lines.
 #[derive(Drop)]
@@ -23,13 +23,13 @@ enum Banks {
 
 fn make_timers(line: Line, settings: &[Setting]) -> Result<TimerBank, Failure> {
     line.print_vetted("timers", timers::vetting::vet(settings))?;
-    Ok(timers::bank::make(line.rt.alloc(), settings)?)
+    Ok(timers::timer_bank::make(line.rt.alloc(), settings)?)
 }
 
 fn make_table(line: Line, source: Source) -> Result<TableBank, Failure> {
     let file = line.bytes(source)?;
     line.print_vetted("scheme", scheme_file::vetting::vet(&file))?;
-    Ok(scheme_file::bank::make(line.rt.alloc(), &file)?)
+    Ok(scheme_file::table_bank::make(line.rt.alloc(), &file)?)
 }
 
 // Says so where two banks are too large to be joined.

@@ -1,19 +1,17 @@
 -- Each answer is a step of the part, and each step is answered.
-use Rattle.std.proofs.Common.{◌≡◌, ℕ, ◌+◌, ◌^◌, ◌<◌, Bool, true, false, cond, ◌&&◌, ltb, Some, None, Ok, Err, Option, Result, sym, refl, ap, ◌∙◌, subst, arith}
+use Rattle.std.proofs.Common.{◌≡◌, ℕ, ◌+◌, ◌^◌, ◌<◌, Bool, true, false, cond, ◌&&◌, ltb, Some, None, Ok, Err, Result, sym, refl, ◌∙◌, subst, arith}
 use Rattle.std.specs.Option.{ok_or}
-use Rattle.std.proofs.lemmas.Bool.{and_parts, and_from, eqb-true, eq-eqb, leb-true, le-leb, ltb-true, lt-ltb, false≢true}
-use Rattle.fddevs.specs.Machine.{Machine, Family, WithinLimits, when, has_phase, lifespan_at, external_at}
-use Rattle.fddevs.specs.Part.{Within, Spent, PartStep, takes, expires, waits, fresh, led, after_input, after_internal, after_delay}
+use Rattle.std.proofs.lemmas.Bool.{and_parts, eqb-true, eq-eqb, leb-true, le-leb, ltb-true, lt-ltb, false≢true}
+use Rattle.fddevs.specs.Machine.{Family, WithinLimits, when, has_phase, lifespan_at, external_at}
+use Rattle.fddevs.specs.Part.{Within, Spent, PartStep, takes, expires, waits, after_input, after_internal, after_delay}
 use Rattle.fddevs.specs.declared.part.External.{External}
-use Rattle.fddevs.specs.declared.part.Mark.{Mark}
-use Rattle.fddevs.specs.declared.part.Mark.TheVariants.{Keep, Restart}
 use Rattle.fddevs.specs.declared.part.PartMove.{PartMove}
 use Rattle.fddevs.specs.declared.part.PartMove.TheVariants.{Input, Internal, Delay}
 use Rattle.fddevs.specs.declared.part.PartState.{PartState}
 use Rattle.fddevs.specs.declared.part.Span.{Span}
 use Rattle.fddevs.specs.declared.part.Span.TheVariants.{Ticks, Unlimited}
 use Rattle.fddevs.proofs.Queries.{external_asked}
-use Rattle.follow.specs.Follow.{spent, within, after_delay_in, moved}
+use Rattle.follow.specs.Follow.{spent, within, moved}
 use Rattle.follow.specs.Laws.{FollowsExactly}
 use Rattle.follow.specs.declared.moves.Stuck.{Stuck}
 use Rattle.follow.specs.declared.moves.Stuck.TheVariants.{NotAllowed, TooLong}

@@ -54,7 +54,7 @@ fn fresh(phase: u8, lifespan: Span) -> PartState
 
 // A phase with its own lifespan, from the beginning.
 fn enter<B: Bank>(bank: &B, part: u8, phase: u8) -> Option<PartState>
-    ensures { result ≡ when (has_phase (family bank.now) part phase) (fresh ((family bank.now).part part) phase) }
+    ensures { result ≡ when (has_phase (B.family bank.now) part phase) (fresh ((B.family bank.now).part part) phase) }
 {
     let lifespan = bank.lifespan(part, phase)?;
     Some(fresh(phase, lifespan))
@@ -62,7 +62,7 @@ fn enter<B: Bank>(bank: &B, part: u8, phase: u8) -> Option<PartState>
 
 // The state in which a part begins.
 pub fn begin<B: Bank>(bank: &B, part: u8) -> Option<PartState>
-    ensures { result ≡ when (nat_lt part (family bank.now).count) (begin ((family bank.now).part part)) }
+    ensures { result ≡ when (nat_lt part (B.family bank.now).count) (begin ((B.family bank.now).part part)) }
 {
     let phase = bank.start(part)?;
     enter(bank, part, phase)
@@ -70,7 +70,7 @@ pub fn begin<B: Bank>(bank: &B, part: u8) -> Option<PartState>
 
 // Where an input leads, with the lifespan of the phase that it leads to.
 fn arrival<B: Bank>(bank: &B, part: u8, phase: u8, input: u8) -> Option<Arrival>
-    ensures { result ≡ arrival_in (family bank.now) part phase input }
+    ensures { result ≡ arrival_in (B.family bank.now) part phase input }
 {
     let external = bank.external(part, phase, input)?;
     let lifespan = bank.lifespan(part, external.next)?;
@@ -78,7 +78,7 @@ fn arrival<B: Bank>(bank: &B, part: u8, phase: u8, input: u8) -> Option<Arrival>
 }
 
 fn take_input<B: Bank>(bank: &B, part: u8, state: PartState, input: u8) -> Option<PartState>
-    ensures { result ≡ input_in (family bank.now) part state input }
+    ensures { result ≡ input_in (B.family bank.now) part state input }
 {
     let Arrival { external, lifespan } = arrival(bank, part, state.phase, input)?;
     match external.mark {
@@ -91,7 +91,7 @@ fn take_input<B: Bank>(bank: &B, part: u8, state: PartState, input: u8) -> Optio
 }
 
 fn take_internal<B: Bank>(bank: &B, part: u8, state: PartState) -> Option<PartState>
-    ensures { result ≡ internal_in (family bank.now) part state }
+    ensures { result ≡ internal_in (B.family bank.now) part state }
 {
     if !is_spent(state) {
         return None;
@@ -116,7 +116,7 @@ fn take_delay(state: PartState, ticks: u32) -> Result<PartState, Stuck>
 }
 
 fn make_move<B: Bank>(bank: &B, part: u8, state: PartState, a: PartMove) -> Result<PartState, Stuck>
-    ensures { result ≡ moved (family bank.now) part state a }
+    ensures { result ≡ moved (B.family bank.now) part state a }
 {
     match a {
         PartMove::Input(input) => take_input(bank, part, state, input).ok_or(Stuck::NotAllowed),
@@ -127,8 +127,8 @@ fn make_move<B: Bank>(bank: &B, part: u8, state: PartState, a: PartMove) -> Resu
 
 // What comes of a move of a part: exactly the step that the formalism allows.
 pub fn step<B: Bank>(bank: &B, part: u8, state: PartState, a: PartMove) -> Result<PartState, Stuck>
-    ensures answer { result ≡ moved (family bank.now) part state a }
-    ensures exact { FollowsExactly (family bank.now) part state a result }
+    ensures answer { result ≡ moved (B.family bank.now) part state a }
+    ensures exact { FollowsExactly (B.family bank.now) part state a result }
 {
     make_move(bank, part, state, a)
 }

@@ -4,7 +4,7 @@ use Rattle.fddevs.specs.declared.refusal.Layer.TheVariants.{Scheme}
 use Rattle.fddevs.specs.declared.refusal.Refusal.{Refusal}
 use Rattle.fddevs.specs.declared.refusal.Refusal.TheVariants.{NotWhole, Version, PartCount}
 use Rattle.fddevs.specs.Refusals.{number_of}
-use Rattle.fddevs.specs.Vetting.{Vetted, NotAfter, Tells}
+use Rattle.fddevs.specs.Vetting.{NotAfter, Tells}
 use Rattle.fddevs.proofs.Vetting.{Placed, FaultAt, tells_unless, tells_found, tells_then, tells_as}
 use Rattle.scheme_file.specs.File.{head, part_count}
 use Rattle.scheme_file.specs.Faults.{Fault, not_whole, other_version, other_count, in_section}

@@ -1,5 +1,5 @@
 -- Where the sections of a file stand, and what its tests tell of them.
-use Rattle.std.specs.Prelude.{◌≡◌, ℕ, zero, suc, ◌+◌, ◌<◌, ◌≤◌, true, false, List, length, is_ok, Some, None, Ok, Option, ◌==◌}
+use Rattle.std.specs.Prelude.{◌≡◌, ℕ, zero, suc, ◌+◌, ◌<◌, ◌≤◌, true, false, List, length, is_ok, ◌==◌}
 use Rattle.std.proofs.Common.{⊎_elim, arith, le_refl, add-one}
 use Rattle.std.proofs.lemmas.Bool.{eqb-true, ne_eqb, cases_lt}
 use Rattle.fddevs.proofs.Vetting.{none_first, found_none}

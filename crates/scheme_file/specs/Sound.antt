@@ -1,8 +1,8 @@
 -- What is known of a file that was vetted, and that its parts are within the limits.
-use Rattle.std.specs.Prelude.{◌≡◌, ℕ, ◌+◌, ◌<◌, ◌≤◌, true, List, length, is_ok, Some, None, Option, nat_lt, refl}
+use Rattle.std.specs.Prelude.{◌≡◌, ℕ, ◌+◌, ◌<◌, ◌≤◌, true, List, length, is_ok, Some, nat_lt, refl}
 use Rattle.std.proofs.Common.{arith}
 use Rattle.std.proofs.lemmas.Bool.{and_parts, eqb-true, leb-true, ltb-true, cond_both}
-use Rattle.fddevs.specs.Machine.{Machine, Short, Exists, CountsWithin, PhaseWithin, PartWithin, WithinLimits}
+use Rattle.fddevs.specs.Machine.{Short, Exists, PartWithin, WithinLimits}
 use Rattle.fddevs.specs.Vetting.{unless}
 use Rattle.fddevs.specs.declared.part.Output.{Output}
 use Rattle.fddevs.specs.declared.part.Output.TheVariants.{Silent, Sends}
@@ -13,7 +13,7 @@ use Rattle.fddevs.proofs.Queries.{when_some}
 use Rattle.fddevs.proofs.Vetting.{then_ok, found_none, tested, none_first, true_below, strides}
 use Rattle.scheme_file.specs.Bank.{section_in}
 use Rattle.fddevs.specs.Bytes.{two_at}
-use Rattle.scheme_file.specs.File.{head, part_count, phase_of, section_at, record_at, record_of, record_size, lifespan_of, section_machine, file_family}
+use Rattle.scheme_file.specs.File.{head, part_count, section_at, record_at, record_of, record_size, lifespan_of, section_machine, file_family}
 use Rattle.scheme_file.specs.Vetting.{vetting, whole, version_fits, count_fits, sections_pass, refusal, passes, counts_fit, right_length, output_exists, external_exists, record_exists, section_exists}
 use Rattle.scheme_file.specs.declared.section.Section.{Section}
 use Rattle.scheme_file.specs.declared.section.Test.TheVariants.{Length, Limits, Names}

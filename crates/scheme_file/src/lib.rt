@@ -1,6 +1,8 @@
 // The scheme file and the table bank that reads it.
-pub mod bank;
+#![tactic(auto)]
+
 mod records;
 pub mod scheme;
 pub mod section;
+pub mod table_bank;
 pub mod vetting;

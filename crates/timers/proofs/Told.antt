@@ -1,5 +1,5 @@
 -- The vetting tells of the faults of timer settings.
-use Rattle.std.proofs.Common.{◌≡◌, ℕ, false, ◌⊎◌, List, length, get_or, sym, refl, subst, inl, inr, arith}
+use Rattle.std.proofs.Common.{◌≡◌, false, ◌⊎◌, List, length, get_or, sym, refl, subst, inl, inr, arith}
 use Rattle.fddevs.specs.declared.refusal.Refusal.{Refusal}
 use Rattle.fddevs.specs.declared.refusal.Refusal.TheVariants.{TimerCount, TimerTime}
 use Rattle.fddevs.specs.Vetting.{NotAfter, Tells}

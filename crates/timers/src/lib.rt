@@ -1,5 +1,7 @@
 // The timer bank: pickup and dropout timers with an operate time and a hold time.
-pub mod bank;
+#![tactic(auto)]
+
 pub mod setting;
+pub mod timer_bank;
 pub mod timers;
 pub mod vetting;

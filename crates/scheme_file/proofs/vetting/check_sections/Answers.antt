@@ -35,8 +35,8 @@ two-requires c =
     let l = c.loop-k in
     omega (arith, inside f c.requires.whole l.k l.at l.invariant.0 (omega arith))
 
-pub overflow-add-at-in-loop-k : goal.overflow-add-at-in-loop-k
-overflow-add-at-in-loop-k c =
+pub overflow_add-at-in-loop-k : goal.overflow_add-at-in-loop-k
+overflow_add-at-in-loop-k c =
     let f = c.args.file.now in
     let l = c.loop-k in
     omega (arith, inside f c.requires.whole l.k l.at l.invariant.0 (omega arith), c.two.ensures)

@@ -8,13 +8,13 @@ returns-then-file-lt2 c = sym (past_end c.args.file.now 0 _ (omega arith) (omega
 pub returns-then-file-at-lt2 : goal.returns-then-file-at-lt2
 returns-then-file-at-lt2 c =
     let f = c.args.file.now in
-    let k = c.loop-k.-k in
+    let k = c.loop-k._k in
     sym (past_end f (k + 1) _ (omega arith) (omega (arith, head_more f k c.loop-k.at c.loop-k.invariant.0)))
 
 pub returns-then-at-file : goal.returns-then-at-file
 returns-then-at-file c =
     let f = c.args.file.now in
-    let k = c.loop-k.-k in
+    let k = c.loop-k._k in
     sym
     (past_end f (k + 1) _ (omega arith)
     (omega (arith, head_more f k c.loop-k.at c.loop-k.invariant.0, c.two.ensures)))
@@ -22,4 +22,4 @@ returns-then-at-file c =
 pub loop-k-preserved : goal.loop-k-preserved
 loop-k-preserved c =
     let f = c.args.file.now in
-    (omega (arith, head_more f c.loop-k.-k c.loop-k.at c.loop-k.invariant.0, c.two.ensures), omega arith)
+    (omega (arith, head_more f c.loop-k._k c.loop-k.at c.loop-k.invariant.0, c.two.ensures), omega arith)

@@ -7,4 +7,4 @@ use Rattle.scheme_file.proofs.vetting.vet.Goals as goal
 pub returns : goal.returns
 returns c =
     let f = c.args.file.now in
-    record { answer = c.check-all.ensures; tells = subst (Tells (Fault f)) (sym c.check-all.ensures) (vetting_tells f) }
+    record { answer = c.check_all.ensures; tells = subst (Tells (Fault f)) (sym c.check_all.ensures) (vetting_tells f) }

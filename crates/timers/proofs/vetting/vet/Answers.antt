@@ -7,4 +7,4 @@ use Rattle.timers.proofs.vetting.vet.Goals as goal
 pub returns : goal.returns
 returns c =
     let ts = c.args.settings.now in
-    record { answer = c.check-all.ensures; tells = subst (Tells (Fault ts)) (sym c.check-all.ensures) (vetting_tells ts) }
+    record { answer = c.check_all.ensures; tells = subst (Tells (Fault ts)) (sym c.check_all.ensures) (vetting_tells ts) }

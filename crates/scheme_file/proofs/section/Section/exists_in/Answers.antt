@@ -5,24 +5,24 @@ use Rattle.scheme_file.specs.File.{record_size, record_of}
 use Rattle.scheme_file.specs.Vetting.{record_exists}
 use Rattle.scheme_file.proofs.section.Section.exists_in.Goals as goal
 
-pub record-bytes-requires : goal.record-bytes-requires
-record-bytes-requires c =
+pub record_bytes-requires : goal.record_bytes-requires
+record_bytes-requires c =
     let x = c.args.self in
     omega (arith, strides (record_size x.counts) c.loop-s.s x.counts.phases (omega arith))
 
-pub returns-then-not-has-record : goal.returns-then-not-has-record
-returns-then-not-has-record c =
+pub returns-then-not-has_record : goal.returns-then-not-has_record
+returns-then-not-has_record c =
     let x = c.args.self in
     let t = λ (s : ℕ). record_exists x (record_of c.args.file.now x s) in
     sym
     (and_right _ _
     (below_false t x.counts.phases c.loop-s.s (omega arith)
-    (sym (c.if-not-has-record.ensures ∙ ap (record_exists x) c.record-bytes.ensures.bytes))))
+    (sym (c.if-not-has_record.ensures ∙ ap (record_exists x) c.record_bytes.ensures.bytes))))
 
 pub loop-s-preserved : goal.loop-s-preserved
 loop-s-preserved c =
     below_more _ _ c.loop-s.invariant
-    (sym (c.if-not-has-record.ensures ∙ ap (record_exists c.args.self) c.record-bytes.ensures.bytes))
+    (sym (c.if-not-has_record.ensures ∙ ap (record_exists c.args.self) c.record_bytes.ensures.bytes))
 
 pub returns : goal.returns
 returns c =

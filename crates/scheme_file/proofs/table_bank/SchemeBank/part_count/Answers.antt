@@ -1,10 +1,10 @@
 use Rattle.std.proofs.Common.{vec_items, ◌∙◌, arith}
 use Rattle.scheme_file.proofs.Sections.{sections_len}
 use Rattle.scheme_file.specs.Sound.{sound}
-use Rattle.scheme_file.proofs.bank.SchemeBank.part_count.Goals as goal
+use Rattle.scheme_file.proofs.table_bank.SchemeBank.part_count.Goals as goal
 
-pub overflow-cast-result : goal.overflow-cast-result
-overflow-cast-result c =
+pub overflow_cast-result : goal.overflow_cast-result
+overflow_cast-result c =
     let x = c.args.self.now in
     omega (arith, sections_len x, (sound (vec_items x.file) x.vetted).few, c.len.ensures)
 
