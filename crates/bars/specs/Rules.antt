@@ -1,6 +1,6 @@
 -- The rules of bars, and what may be at fault in one.
 use Rattle.std.specs.Prelude.{ℕ, ◌<◌, ◌≤◌, List, length}
-use Rattle.std.specs.List.{ContainsAt as Has, AllByRecursion as All}
+use Rattle.std.specs.List.{ContainsAt as Has, AllByRecursion}
 use Rattle.fddevs.specs.declared.refusal.Refusal.{Refusal}
 use Rattle.fddevs.specs.declared.refusal.Refusal.TheVariants.{BarForm, BarStands, BarsFull}
 use Rattle.fddevs.specs.Machine.{Family}
@@ -16,7 +16,7 @@ pub record WellFormed (F : Family) (cs : List Condition) : Type 0 where
   pub some : 1 ≤ length cs
   pub few : length cs ≤ 4
   pub ascending : (j k : ℕ) → j < k → k < length cs → (nth cs j).part < (nth cs k).part
-  pub exist : All (Exists F) cs
+  pub exist : AllByRecursion (Exists F) cs
 
 -- what a bar is held to where these bars stand
 pub record KeepsBarRules (F : Family) (bars : List (List Condition)) (cs : List Condition) : Type 0 where

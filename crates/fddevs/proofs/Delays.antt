@@ -1,6 +1,6 @@
 -- A delay of d ticks is d delays of one tick.
 use Rattle.std.proofs.Common.{◌≡◌, ℕ, zero, suc, ◌+◌, ◌≤◌, List, [], ◌∷◌, map, replicate, sym, refl, ◌∙◌, subst, ap₂, add-zero, arith}
-use Rattle.std.specs.List.{AllByRecursion as All}
+use Rattle.std.specs.List.{AllByRecursion}
 use Rattle.fddevs.specs.declared.part.Span.{Span}
 use Rattle.fddevs.specs.declared.part.Span.TheVariants.{Ticks, Unlimited}
 use Rattle.fddevs.specs.declared.scheme.Move.{Move}
@@ -18,7 +18,7 @@ pub ended : {S : Scheme} {s u : State} → Run S s [] u → u ≡ s
 ended stop = refl
 
 pub delayed : {S : Scheme} {s : State} {d : ℕ} {t : State} → Step S s (Delay d) t →
-    (1 ≤ d) × All (CanDelay d) s × (t ≡ map (after_delay d) s)
+    (1 ≤ d) × AllByRecursion (CanDelay d) s × (t ≡ map (after_delay d) s)
 delayed (elapses d h k) = (h, k, refl)
 
 less : (l : Span) (e a b : ℕ) → a ≤ b → Within l (e + b) → Within l (e + a)
@@ -40,30 +40,30 @@ delay_more d (c ∷ cs) =
     ap₂ ◌∷◌ (λ i. record { phase = c.phase; lifespan = c.lifespan; elapsed = one_more c.elapsed d i })
     (delay_more d cs)
 
-can_one : (d : ℕ) (s : State) → All (CanDelay (suc d)) s → All (CanDelay 1) s
+can_one : (d : ℕ) (s : State) → AllByRecursion (CanDelay (suc d)) s → AllByRecursion (CanDelay 1) s
 can_one d [] h = tt
 can_one d (c ∷ cs) h = (less c.lifespan c.elapsed 1 (suc d) (omega arith) h.0, can_one d cs h.1)
 
-can_rest : (d : ℕ) (s : State) → All (CanDelay (suc d)) s → All (CanDelay d) (map (after_delay 1) s)
+can_rest : (d : ℕ) (s : State) → AllByRecursion (CanDelay (suc d)) s → AllByRecursion (CanDelay d) (map (after_delay 1) s)
 can_rest d [] h = tt
 can_rest d (c ∷ cs) h = (subst (Within c.lifespan) (sym (one_more c.elapsed d)) h.0, can_rest d cs h.1)
 
-can_more : (d : ℕ) (s : State) → All (CanDelay d) (map (after_delay 1) s) → All (CanDelay (suc d)) s
+can_more : (d : ℕ) (s : State) → AllByRecursion (CanDelay d) (map (after_delay 1) s) → AllByRecursion (CanDelay (suc d)) s
 can_more d [] h = tt
 can_more d (c ∷ cs) h = (subst (Within c.lifespan) (one_more c.elapsed d) h.0, can_more d cs h.1)
 
-can_none : (s : State) → InTime s → All (CanDelay 0) s
+can_none : (s : State) → InTime s → AllByRecursion (CanDelay 0) s
 can_none [] w = tt
 can_none (c ∷ cs) w = (subst (Within c.lifespan) (sym (add-zero c.elapsed)) w.0, can_none cs w.1)
 
-pub split : (S : Scheme) (d : ℕ) (s : State) → All (CanDelay d) s → Run S s (replicate d (Delay 1)) (map (after_delay d) s)
+pub split : (S : Scheme) (d : ℕ) (s : State) → AllByRecursion (CanDelay d) s → Run S s (replicate d (Delay 1)) (map (after_delay d) s)
 split S zero s h = subst (Run S s []) (sym (delay_none s)) stop
 split S (suc d) s h =
     subst (Run S s (Delay 1 ∷ replicate d (Delay 1))) (delay_more d s)
     (step (elapses 1 (omega arith) (can_one d s h)) (split S d (map (after_delay 1) s) (can_rest d s h)))
 
 join : (S : Scheme) (d : ℕ) (s t : State) → InTime s → Run S s (replicate d (Delay 1)) t →
-    All (CanDelay d) s × (t ≡ map (after_delay d) s)
+    AllByRecursion (CanDelay d) s × (t ≡ map (after_delay d) s)
 join S zero s t w r = (can_none s w, ended r ∙ sym (delay_none s))
 join S (suc d) s t w r =
     let f = first r in

@@ -1,6 +1,6 @@
 -- A state's row takes the steps that the state takes.
 use Rattle.std.proofs.Common.{◌≡◌, ℕ, zero, suc, Bool, true, false, cond, eqb, List, [], ◌∷◌, map, Some, None, Option, sym, refl, ap, ◌∙◌, subst, ap₂, inl, inr}
-use Rattle.std.specs.List.{AllByRecursion as All}
+use Rattle.std.specs.List.{AllByRecursion}
 use Rattle.std.proofs.lemmas.Bool.{leb-true, le-leb, ltb-true, lt-ltb, and_parts, and_from, false≢true}
 use Rattle.fddevs.specs.declared.part.Cell.{Cell}
 use Rattle.fddevs.specs.declared.part.Mark.{Mark}
@@ -57,11 +57,11 @@ row_of_part S p s =
     (of_sent S.parts s p)
 
 -- what is allowed
-waits_forth : (d : ℕ) (cs : State) → All (CanDelay d) cs → every (λ c. lasts d c.remaining) (row cs) ≡ true
+waits_forth : (d : ℕ) (cs : State) → AllByRecursion (CanDelay d) cs → every (λ c. lasts d c.remaining) (row cs) ≡ true
 waits_forth d [] h = refl
 waits_forth d (c ∷ cs) h = and_from _ _ (wait_forth c.lifespan c.elapsed d h.0) (waits_forth d cs h.1)
 
-waits_back : (d : ℕ) (cs : State) → InTime cs → every (λ c. lasts d c.remaining) (row cs) ≡ true → All (CanDelay d) cs
+waits_back : (d : ℕ) (cs : State) → InTime cs → every (λ c. lasts d c.remaining) (row cs) ≡ true → AllByRecursion (CanDelay d) cs
 waits_back d [] w h = tt
 waits_back d (c ∷ cs) w h =
     let b = and_parts _ _ h in
@@ -105,7 +105,7 @@ each_in_time f h k [] cs w = tt
 each_in_time f h k (m ∷ ms) [] w = tt
 each_in_time f h k (m ∷ ms) (c ∷ cs) w = (h k m c w.0, each_in_time f h (suc k) ms cs w.1)
 
-pub map_in_time : (d : ℕ) (cs : State) → All (CanDelay d) cs → InTime (map (after_delay d) cs)
+pub map_in_time : (d : ℕ) (cs : State) → AllByRecursion (CanDelay d) cs → InTime (map (after_delay d) cs)
 map_in_time d [] h = tt
 map_in_time d (c ∷ cs) h = (h.0, map_in_time d cs h.1)
 

@@ -1,6 +1,6 @@
 -- The laws of steps, rows and delays, as statements.
 use Rattle.std.specs.Prelude.{◌≡◌, ℕ, ◌≤◌, true, ◌↔◌, replicate}
-use Rattle.std.specs.List.{AllByRecursion as All}
+use Rattle.std.specs.List.{AllByRecursion}
 use Rattle.fddevs.specs.declared.scheme.Move.{Move}
 use Rattle.fddevs.specs.declared.scheme.Move.TheVariants.{Delay}
 use Rattle.fddevs.specs.Part.{Within}
@@ -9,7 +9,7 @@ use Rattle.fddevs.specs.Rows.{row, row_after, row_allows}
 
 -- no part has passed the end of the lifespan it carries
 abbrev pub InTime : State → Type 0
-InTime s = All (λ c. Within c.lifespan c.elapsed) s
+InTime s = AllByRecursion (λ c. Within c.lifespan c.elapsed) s
 
 -- the step leads from the state to some state
 abbrev pub Allowed : Scheme → State → Move → Type 0

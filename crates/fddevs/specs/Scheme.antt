@@ -1,6 +1,6 @@
 -- A scheme: parts and the wires between them; its steps, its runs, and the states that a run enters. Assumes nothing.
 use Rattle.std.specs.Prelude.{◌≡◌, ℕ, zero, suc, ◌<◌, ◌≤◌, Bool, cond, ◌&&◌, ◌⊎◌, List, [], ◌∷◌, map, Some, None, Option, ◌==◌}
-use Rattle.std.specs.List.{range_with_len, AllByRecursion as All}
+use Rattle.std.specs.List.{range_with_len, AllByRecursion}
 use Rattle.fddevs.specs.declared.part.Output.{Output}
 use Rattle.fddevs.specs.declared.part.Output.TheVariants.{Silent, Sends}
 use Rattle.fddevs.specs.declared.part.PartState.{PartState}
@@ -89,7 +89,7 @@ after_part S p s =
 pub data Step (S : Scheme) : State → Move → State → Type 0 where
   comes : {s : State} (x : ℕ) → x < S.wiring.outer_inputs → Step S s (Outer x) (after_outer S x s)
   fires : {s : State} (p : ℕ) → DueAt S p s → Step S s (Internal p) (after_part S p s)
-  elapses : {s : State} (d : ℕ) → 1 ≤ d → All (CanDelay d) s → Step S s (Delay d) (map (after_delay d) s)
+  elapses : {s : State} (d : ℕ) → 1 ≤ d → AllByRecursion (CanDelay d) s → Step S s (Delay d) (map (after_delay d) s)
 
 -- a run from a state by allowed steps, and the state where it ends
 pub data Run (S : Scheme) : State → List Move → State → Type 0 where

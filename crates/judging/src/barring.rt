@@ -13,14 +13,14 @@ use book::row::Row;
 
 // Whether the row's part is in the phase.
 fn is_in<B: Bank>(bank: &B, row: &Row, condition: Condition) -> bool
-    ensures { result ≡ is_in (row_phases (take (family bank.now).count (cells_of row.now.bytes))) condition.part condition.phase }
+    ensures { result ≡ is_in (row_phases (take (B.family bank.now).count (cells_of row.now.bytes))) condition.part condition.phase }
 {
     condition.part < bank.part_count() && phase(row, condition.part) == condition.phase
 }
 
 // Whether every condition of a bar holds.
 fn all_hold<B: Bank>(bank: &B, row: &Row, conditions: &[Condition]) -> bool
-    ensures { result ≡ holds conditions.now (row_phases (take (family bank.now).count (cells_of row.now.bytes))) }
+    ensures { result ≡ holds conditions.now (row_phases (take (B.family bank.now).count (cells_of row.now.bytes))) }
 {
     for condition in conditions {
         if !is_in(bank, row, *condition) {
@@ -32,7 +32,7 @@ fn all_hold<B: Bank>(bank: &B, row: &Row, conditions: &[Condition]) -> bool
 
 // Whether some bar holds in the row.
 pub fn is_barred<B: Bank>(bank: &B, bars: &[Bar], row: &Row) -> bool
-    ensures { result ≡ barred (all_conditions bars.now) (row_phases (take (family bank.now).count (cells_of row.now.bytes))) }
+    ensures { result ≡ barred (all_conditions bars.now) (row_phases (take (B.family bank.now).count (cells_of row.now.bytes))) }
 {
     for bar in bars {
         if all_hold(bank, row, bar.conditions()) {

@@ -34,8 +34,8 @@ fn know_row(row: &Row) -> u8
 
 // Whether a record is one of the rows. The hint is where the last search of its kind ended, and is moved on.
 pub(crate) fn is_among<B: Bank>(bank: &B, rows: &Rows, row: &Row, hint: &mut usize) -> bool
-    requires { IsSet (family bank.now) rows.now }
-    ensures { result ≡ among (rows_in (family bank.now).count rows.now.body.now) (take (family bank.now).count (cells_of row.now.bytes)) }
+    requires { IsSet (B.family bank.now) rows.now }
+    ensures { result ≡ among (rows_in (B.family bank.now).count rows.now.body.now) (take (B.family bank.now).count (cells_of row.now.bytes)) }
 {
     know_row(row);
     match rows.find(row, *hint) {
@@ -56,8 +56,8 @@ fn stays<B: Bank>(
     a: Move,
     hint: &mut usize,
 ) -> bool
-    requires { IsSet (family bank.now) rows.now }
-    ensures { result ≡ stays (scheme (family bank.now) (wiring_of wiring.now)) (rows_in (family bank.now).count rows.now.body.now) (take (family bank.now).count (cells_of row.now.bytes)) a }
+    requires { IsSet (B.family bank.now) rows.now }
+    ensures { result ≡ stays (scheme (B.family bank.now) (wiring_of wiring.now)) (rows_in (B.family bank.now).count rows.now.body.now) (take (B.family bank.now).count (cells_of row.now.bytes)) a }
 {
     if !allows(bank, wiring, row, a) {
         return true;
@@ -94,8 +94,8 @@ fn outer_inputs_stay<B: Bank>(
     row: &Row,
     hints: &mut Hints,
 ) -> bool
-    requires { IsSet (family bank.now) rows.now }
-    ensures { result ≡ all_below (λ x. stays (scheme (family bank.now) (wiring_of wiring.now)) (rows_in (family bank.now).count rows.now.body.now) (take (family bank.now).count (cells_of row.now.bytes)) (Outer x)) (wiring_of wiring.now).outer_inputs }
+    requires { IsSet (B.family bank.now) rows.now }
+    ensures { result ≡ all_below (λ x. stays (scheme (B.family bank.now) (wiring_of wiring.now)) (rows_in (B.family bank.now).count rows.now.body.now) (take (B.family bank.now).count (cells_of row.now.bytes)) (Outer x)) (wiring_of wiring.now).outer_inputs }
 {
     for x in 0..wiring.outer_inputs() {
         let hint = &mut hints.outer[usize::from(x)];
@@ -114,8 +114,8 @@ fn internal_steps_stay<B: Bank>(
     row: &Row,
     hints: &mut Hints,
 ) -> bool
-    requires { IsSet (family bank.now) rows.now }
-    ensures { result ≡ all_below (λ p. stays (scheme (family bank.now) (wiring_of wiring.now)) (rows_in (family bank.now).count rows.now.body.now) (take (family bank.now).count (cells_of row.now.bytes)) (Internal p)) (length (scheme (family bank.now) (wiring_of wiring.now)).parts) }
+    requires { IsSet (B.family bank.now) rows.now }
+    ensures { result ≡ all_below (λ p. stays (scheme (B.family bank.now) (wiring_of wiring.now)) (rows_in (B.family bank.now).count rows.now.body.now) (take (B.family bank.now).count (cells_of row.now.bytes)) (Internal p)) (length (scheme (B.family bank.now) (wiring_of wiring.now)).parts) }
 {
     for part in 0..bank.part_count() {
         let hint = &mut hints.internal[usize::from(part)];
@@ -134,8 +134,8 @@ pub(crate) fn all_stay<B: Bank>(
     row: &Row,
     hints: &mut Hints,
 ) -> bool
-    requires { IsSet (family bank.now) rows.now }
-    ensures { result ≡ all_stay (scheme (family bank.now) (wiring_of wiring.now)) (rows_in (family bank.now).count rows.now.body.now) (take (family bank.now).count (cells_of row.now.bytes)) }
+    requires { IsSet (B.family bank.now) rows.now }
+    ensures { result ≡ all_stay (scheme (B.family bank.now) (wiring_of wiring.now)) (rows_in (B.family bank.now).count rows.now.body.now) (take (B.family bank.now).count (cells_of row.now.bytes)) }
 {
     stays(bank, wiring, rows, row, Move::Delay(1), &mut hints.delay)
         && outer_inputs_stay(bank, wiring, rows, row, hints)

@@ -20,7 +20,7 @@ const BODY_LIMIT: usize = 4_194_304;
 
 // Whether a body has rows of so many parts, and only whole ones.
 fn is_rows<B: Bank>(bank: &B, body: &[u8]) -> bool
-    ensures { result ≡ is_rows (family bank.now).count body.now }
+    ensures { result ≡ is_rows (B.family bank.now).count body.now }
 {
     let width = 3 * usize::from(bank.part_count());
     1 <= body.len() && body.len() <= BODY_LIMIT && body.len() % width == 0
@@ -34,7 +34,7 @@ fn is_steps(body: &[u8]) -> bool
 }
 
 fn vet_set<B: Bank>(bank: &B, wiring: &Wiring, bars: &[Bar], body: &[u8]) -> Result<(), Refusal>
-    ensures { result ≡ set_vetting (scheme (family bank.now) (wiring_of wiring.now)) (all_conditions bars.now) (family bank.now).count body.now }
+    ensures { result ≡ set_vetting (scheme (B.family bank.now) (wiring_of wiring.now)) (all_conditions bars.now) (B.family bank.now).count body.now }
 {
     if !is_rows(bank, body) {
         return Err(Refusal::Body(Layer::Proof));
@@ -43,7 +43,7 @@ fn vet_set<B: Bank>(bank: &B, wiring: &Wiring, bars: &[Bar], body: &[u8]) -> Res
 }
 
 fn vet_witness<B: Bank>(bank: &B, wiring: &Wiring, bars: &[Bar], body: &[u8]) -> Result<(), Refusal>
-    ensures { result ≡ witness_vetting (scheme (family bank.now) (wiring_of wiring.now)) (all_conditions bars.now) body.now }
+    ensures { result ≡ witness_vetting (scheme (B.family bank.now) (wiring_of wiring.now)) (all_conditions bars.now) body.now }
 {
     if !is_steps(body) {
         return Err(Refusal::Body(Layer::Proof));
@@ -59,7 +59,7 @@ fn judge_body<B: Bank>(
     kind: u8,
     body: &[u8],
 ) -> Result<Evidence, Refusal>
-    ensures { result ≡ judged_as kind (set_vetting (scheme (family bank.now) (wiring_of wiring.now)) (all_conditions bars.now) (family bank.now).count body.now) (witness_vetting (scheme (family bank.now) (wiring_of wiring.now)) (all_conditions bars.now) body.now) }
+    ensures { result ≡ judged_as kind (set_vetting (scheme (B.family bank.now) (wiring_of wiring.now)) (all_conditions bars.now) (B.family bank.now).count body.now) (witness_vetting (scheme (B.family bank.now) (wiring_of wiring.now)) (all_conditions bars.now) body.now) }
 {
     if kind == 1 {
         vet_set(bank, wiring, bars, body)?;
@@ -79,7 +79,7 @@ fn judge_file<B: Bank>(
     bars: &[Bar],
     file: &[u8],
 ) -> Result<Evidence, Refusal>
-    ensures { result ≡ judgement (family bank.now) (wiring_of wiring.now) (all_conditions bars.now) file.now }
+    ensures { result ≡ judgement (B.family bank.now) (wiring_of wiring.now) (all_conditions bars.now) file.now }
 {
     let [version, kind, a, b, c, d, body @ ..] = file else {
         return Err(Refusal::NotWhole(Layer::Proof));
@@ -102,9 +102,9 @@ pub fn judge<B: Bank>(
     bars: &[Bar],
     file: &[u8],
 ) -> Result<Evidence, Refusal>
-    ensures answer { result ≡ judgement (family bank.now) (wiring_of wiring.now) (all_conditions bars.now) file.now }
-    ensures exactly { ByTheRules (family bank.now) (wiring_of wiring.now) (all_conditions bars.now) file.now result }
-    ensures tells { Tells (Fault (family bank.now) (wiring_of wiring.now) (all_conditions bars.now) file.now) (vetting_of result) }
+    ensures answer { result ≡ judgement (B.family bank.now) (wiring_of wiring.now) (all_conditions bars.now) file.now }
+    ensures exactly { ByTheRules (B.family bank.now) (wiring_of wiring.now) (all_conditions bars.now) file.now result }
+    ensures tells { Tells (Fault (B.family bank.now) (wiring_of wiring.now) (all_conditions bars.now) file.now) (vetting_of result) }
 {
     judge_file(bank, wiring, bars, file)
 }

@@ -20,8 +20,8 @@ pub(crate) fn phase(row: &Row, part: u8) -> u8
 
 // Whether a part has the phase that the row gives it.
 fn exists<B: Bank>(bank: &B, row: &Row, part: u8) -> bool
-    requires { part < (family bank.now).count }
-    ensures value { result ≡ nat_lt (nth_cell (cells_of row.now.bytes) part).phase ((family bank.now).part part).counts.phases }
+    requires { part < (B.family bank.now).count }
+    ensures value { result ≡ nat_lt (nth_cell (cells_of row.now.bytes) part).phase ((B.family bank.now).part part).counts.phases }
     ensures whole { length row.now.bytes ≡ 48 }
 {
     let phase = phase(row, part);
@@ -33,7 +33,7 @@ fn exists<B: Bank>(bank: &B, row: &Row, part: u8) -> bool
 
 // Whether every part has the phase that the row gives it.
 pub(crate) fn all_exist<B: Bank>(bank: &B, row: &Row) -> bool
-    ensures { result ≡ phases_exist (scheme (family bank.now) no_wiring).parts (take (family bank.now).count (cells_of row.now.bytes)) }
+    ensures { result ≡ phases_exist (scheme (B.family bank.now) no_wiring).parts (take (B.family bank.now).count (cells_of row.now.bytes)) }
 {
     for part in 0..bank.part_count() {
         if !exists(bank, row, part) {

@@ -22,7 +22,7 @@ const NO_ROW: Row = Row { bytes: [0; 48] };
 
 // Whether the parts have the phases of every row.
 fn vet_phases<B: Bank>(bank: &B, body: &[u8]) -> Result<(), Refusal>
-    ensures { result ≡ phases_vetting (scheme (family bank.now) no_wiring).parts (family bank.now).count body.now }
+    ensures { result ≡ phases_vetting (scheme (B.family bank.now) no_wiring).parts (B.family bank.now).count body.now }
 {
     let rows = Rows::new(bank.part_count(), body);
     let mut row = NO_ROW;
@@ -37,7 +37,7 @@ fn vet_phases<B: Bank>(bank: &B, body: &[u8]) -> Result<(), Refusal>
 
 // Whether every row is above the one before it.
 fn vet_order<B: Bank>(bank: &B, body: &[u8]) -> Result<(), Refusal>
-    ensures { result ≡ order_vetting (family bank.now).count body.now }
+    ensures { result ≡ order_vetting (B.family bank.now).count body.now }
 {
     let rows = Rows::new(bank.part_count(), body);
     for k in 1..rows.count() {
@@ -50,7 +50,7 @@ fn vet_order<B: Bank>(bank: &B, body: &[u8]) -> Result<(), Refusal>
 
 // Whether no bar holds in any row.
 fn vet_bars<B: Bank>(bank: &B, bars: &[Bar], body: &[u8]) -> Result<(), Refusal>
-    ensures { result ≡ bars_vetting (all_conditions bars.now) (family bank.now).count body.now }
+    ensures { result ≡ bars_vetting (all_conditions bars.now) (B.family bank.now).count body.now }
 {
     let rows = Rows::new(bank.part_count(), body);
     let mut row = NO_ROW;
@@ -65,8 +65,8 @@ fn vet_bars<B: Bank>(bank: &B, bars: &[Bar], body: &[u8]) -> Result<(), Refusal>
 
 // Whether the row of the start is one of the rows, which ascend.
 fn vet_start<B: Bank>(bank: &B, body: &[u8]) -> Result<(), Refusal>
-    requires { order_vetting (family bank.now).count body.now ≡ Ok tt }
-    ensures { result ≡ start_vetting (scheme (family bank.now) no_wiring) (family bank.now).count body.now }
+    requires { order_vetting (B.family bank.now).count body.now ≡ Ok tt }
+    ensures { result ≡ start_vetting (scheme (B.family bank.now) no_wiring) (B.family bank.now).count body.now }
 {
     let rows = Rows::new(bank.part_count(), body);
     if !is_among(bank, &rows, &start(bank), &mut 0) {
@@ -77,8 +77,8 @@ fn vet_start<B: Bank>(bank: &B, body: &[u8]) -> Result<(), Refusal>
 
 // Whether every single step from every row leads to one of the rows, which ascend.
 fn vet_steps<B: Bank>(bank: &B, wiring: &Wiring, body: &[u8]) -> Result<(), Refusal>
-    requires { order_vetting (family bank.now).count body.now ≡ Ok tt }
-    ensures { result ≡ steps_vetting (scheme (family bank.now) (wiring_of wiring.now)) (family bank.now).count body.now }
+    requires { order_vetting (B.family bank.now).count body.now ≡ Ok tt }
+    ensures { result ≡ steps_vetting (scheme (B.family bank.now) (wiring_of wiring.now)) (B.family bank.now).count body.now }
 {
     let rows = Rows::new(bank.part_count(), body);
     let mut row = NO_ROW;
@@ -99,7 +99,7 @@ pub(crate) fn vet_rows<B: Bank>(
     bars: &[Bar],
     body: &[u8],
 ) -> Result<(), Refusal>
-    ensures { result ≡ rows_vetting (scheme (family bank.now) (wiring_of wiring.now)) (all_conditions bars.now) (family bank.now).count body.now }
+    ensures { result ≡ rows_vetting (scheme (B.family bank.now) (wiring_of wiring.now)) (all_conditions bars.now) (B.family bank.now).count body.now }
 {
     vet_phases(bank, body)?;
     vet_order(bank, body)?;

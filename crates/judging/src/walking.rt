@@ -33,7 +33,7 @@ pub(crate) fn walk<B: Bank>(
     bars: &[Bar],
     body: &[u8],
 ) -> Result<(), Refusal>
-    ensures { result ≡ walk (scheme (family bank.now) (wiring_of wiring.now)) (all_conditions bars.now) 0 (row (start (scheme (family bank.now) (wiring_of wiring.now)))) body.now }
+    ensures { result ≡ walk (scheme (B.family bank.now) (wiring_of wiring.now)) (all_conditions bars.now) 0 (row (start (scheme (B.family bank.now) (wiring_of wiring.now)))) body.now }
 {
     let mut row = start(bank);
     let mut left = body;

@@ -1,7 +1,7 @@
 -- A set's body passes exactly where it is the bytes of rows that keep the rules.
 use Rattle.std.proofs.Common.{◌≡◌, ℕ, zero, suc, ◌+◌, ◌-◌, ◌*◌, ◌/◌, ◌%◌, ◌<◌, ◌≤◌, Bool, true, false, not, ◌&&◌, ◌||◌, eqb, ltb, leb, List, [], ◌∷◌, ◌++◌, map, length, get_or, take, drop, Ok, Err, Ordering, Less, Equal, Greater, sym, refl, ap, ◌∙◌, subst, ap₂, suc-mul, mul_comm, mul-zero, zero-mul, mul-div_cancel, arith}
 use native.Mathlib.Nat.{div-add-mod, mul-mod_left}
-use Rattle.std.specs.List.{range_with_len, ContainsAt as Has, flat_map, AllByRecursion as All}
+use Rattle.std.specs.List.{range_with_len, ContainsAt as Has, flat_map, AllByRecursion}
 use Rattle.std.specs.Ordering.{is_lt}
 use Rattle.std.proofs.lemmas.List.FromFn.{length-map-range_with_len, get_or-map-range_with_len, fill_by_all, length-range_with_len}
 use Rattle.std.proofs.ByRecursion.{All-take, All-drop, All-get_or, All-from_get_or, All-weaker}
@@ -57,7 +57,7 @@ pub record SetBody (S : Scheme) (bars : Bars) (body : List ℕ) : Type 0 where
   pub written : rows_bytes rows ≡ body
   pub limit : length body ≤ 4194304
   pub some : 1 ≤ length rows
-  pub exist : All (OfParts S.parts) rows
+  pub exist : AllByRecursion (OfParts S.parts) rows
   pub ascending : Ascending rows
   pub closed : Closed S bars rows
 

@@ -1,7 +1,7 @@
 -- The rules that a proof file keeps for a scheme and its bars: those of sets, and those of witnesses. Assumes nothing.
 use Rattle.std.specs.Prelude.{◌≡◌, ℕ, suc, ◌<◌, ◌≤◌, Bool, true, false, List, [], ◌∷◌, map, length, ◌==◌, slice_index_or}
 use Rattle.std.specs.declared.cmp.Ordering.TheVariants.{Less}
-use Rattle.std.specs.List.{ContainsAt as Has, AllByRecursion as All}
+use Rattle.std.specs.List.{ContainsAt as Has, AllByRecursion}
 use Rattle.fddevs.specs.declared.scheme.Move.{Move}
 use Rattle.fddevs.specs.declared.scheme.Move.TheVariants.{Outer, Internal, Delay}
 use Rattle.fddevs.specs.Machine.{Machine, Family, Short}
@@ -54,7 +54,7 @@ pub record KeepsSetRules (F : Family) (W : Wiring) (bars : Bars) (file : List �
   pub written : file ≡ proof_file 1 (rows_bytes rows)
   pub limit : length (rows_bytes rows) ≤ 4194304
   pub some : 1 ≤ length rows
-  pub exist : All (OfParts (scheme F W).parts) rows
+  pub exist : AllByRecursion (OfParts (scheme F W).parts) rows
   pub ascending : Ascending rows
   pub closed : Closed (scheme F W) bars rows
 

@@ -14,14 +14,14 @@ use judging::barring::is_barred;
 
 // Whether every condition of the bar holds in the row.
 fn is_held<B: Bank>(bank: &B, bar: &Bar, row: &Row) -> bool
-    ensures { result ≡ holds (conditions_of bar.now) (row_phases (take (family bank.now).count (cells_of row.now.bytes))) }
+    ensures { result ≡ holds (conditions_of bar.now) (row_phases (take (B.family bank.now).count (cells_of row.now.bytes))) }
 {
     is_barred(bank, &[*bar], row)
 }
 
 // The first bar of which every condition holds in the row.
 pub fn holding<B: Bank>(bank: &B, bars: &[Bar], row: &Row) -> Option<usize>
-    ensures { result ≡ seek (holds_not (all_conditions bars.now) (row_phases (take (family bank.now).count (cells_of row.now.bytes)))) 0 (length bars.now) }
+    ensures { result ≡ seek (holds_not (all_conditions bars.now) (row_phases (take (B.family bank.now).count (cells_of row.now.bytes)))) 0 (length bars.now) }
 {
     for (k, bar) in bars.iter().enumerate() {
         if is_held(bank, bar, row) {

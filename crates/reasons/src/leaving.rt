@@ -40,7 +40,7 @@ fn know_row(row: &Row) -> u8
 
 // The row that a step leads to, where the step is allowed and the row is none of the rows.
 fn led_out<B: Bank>(bank: &B, wiring: &Wiring, rows: &Rows, row: &Row, a: Move) -> Option<Row>
-    ensures { IsSet (family bank.now) rows.now → LeadsOut (scheme (family bank.now) (wiring_of wiring.now)) (rows_in (family bank.now).count rows.now.body.now) (take (family bank.now).count (cells_of row.now.bytes)) (family bank.now).count a result }
+    ensures { IsSet (B.family bank.now) rows.now → LeadsOut (scheme (B.family bank.now) (wiring_of wiring.now)) (rows_in (B.family bank.now).count rows.now.body.now) (take (B.family bank.now).count (cells_of row.now.bytes)) (B.family bank.now).count a result }
 {
     know_row(row);
     if !allows(bank, wiring, row, a) {
@@ -57,7 +57,7 @@ fn led_out<B: Bank>(bank: &B, wiring: &Wiring, rows: &Rows, row: &Row, a: Move) 
 
 // The first outer input that leads out.
 fn outer_departure<B: Bank>(bank: &B, wiring: &Wiring, rows: &Rows, row: &Row) -> Option<Departure>
-    ensures { IsSet (family bank.now) rows.now → OuterLeave (scheme (family bank.now) (wiring_of wiring.now)) (rows_in (family bank.now).count rows.now.body.now) (take (family bank.now).count (cells_of row.now.bytes)) (family bank.now).count result }
+    ensures { IsSet (B.family bank.now) rows.now → OuterLeave (scheme (B.family bank.now) (wiring_of wiring.now)) (rows_in (B.family bank.now).count rows.now.body.now) (take (B.family bank.now).count (cells_of row.now.bytes)) (B.family bank.now).count result }
 {
     for x in 0..wiring.outer_inputs() {
         let step = Move::Outer(x);
@@ -75,7 +75,7 @@ fn internal_departure<B: Bank>(
     rows: &Rows,
     row: &Row,
 ) -> Option<Departure>
-    ensures { IsSet (family bank.now) rows.now → InternalLeave (scheme (family bank.now) (wiring_of wiring.now)) (rows_in (family bank.now).count rows.now.body.now) (take (family bank.now).count (cells_of row.now.bytes)) (family bank.now).count result }
+    ensures { IsSet (B.family bank.now) rows.now → InternalLeave (scheme (B.family bank.now) (wiring_of wiring.now)) (rows_in (B.family bank.now).count rows.now.body.now) (take (B.family bank.now).count (cells_of row.now.bytes)) (B.family bank.now).count result }
 {
     for part in 0..bank.part_count() {
         let step = Move::Internal(part);
@@ -89,7 +89,7 @@ fn internal_departure<B: Bank>(
 // A single step that leads from the row to a row which is none of the rows, where there is one. The rows must be those
 // of the bank's parts and ascend: else the answer means nothing.
 pub fn leaving<B: Bank>(bank: &B, wiring: &Wiring, rows: &Rows, row: &Row) -> Option<Departure>
-    ensures { IsSet (family bank.now) rows.now → Leaves (scheme (family bank.now) (wiring_of wiring.now)) (rows_in (family bank.now).count rows.now.body.now) (take (family bank.now).count (cells_of row.now.bytes)) (family bank.now).count result }
+    ensures { IsSet (B.family bank.now) rows.now → Leaves (scheme (B.family bank.now) (wiring_of wiring.now)) (rows_in (B.family bank.now).count rows.now.body.now) (take (B.family bank.now).count (cells_of row.now.bytes)) (B.family bank.now).count result }
 {
     let step = Move::Delay(1);
     if let Some(to) = led_out(bank, wiring, rows, row, step) {

@@ -11,8 +11,8 @@ use fddevs::part::Span;
 
 // Whether a part has the phase that the row gives it.
 fn has_its_phase<B: Bank>(bank: &B, row: &Row, part: u8) -> bool
-    requires { part < (family bank.now).count }
-    ensures { result ≡ has_its_phase (family bank.now) (cells_of row.now.bytes) part }
+    requires { part < (B.family bank.now).count }
+    ensures { result ≡ has_its_phase (B.family bank.now) (cells_of row.now.bytes) part }
 {
     let phase = read(row, part).phase;
     match bank.counts(part) {
@@ -23,7 +23,7 @@ fn has_its_phase<B: Bank>(bank: &B, row: &Row, part: u8) -> bool
 
 // The first part that does not have the phase which the row gives it.
 pub fn missing_phase<B: Bank>(bank: &B, row: &Row) -> Option<u8>
-    ensures { result ≡ seek (has_its_phase (family bank.now) (cells_of row.now.bytes)) 0 (family bank.now).count }
+    ensures { result ≡ seek (has_its_phase (B.family bank.now) (cells_of row.now.bytes)) 0 (B.family bank.now).count }
 {
     for part in 0..bank.part_count() {
         if !has_its_phase(bank, row, part) {
@@ -46,7 +46,7 @@ fn lasts_for(row: &Row, part: u8, d: u32) -> bool
 
 // The first part that does not last for d ticks.
 pub fn first_short<B: Bank>(bank: &B, row: &Row, d: u32) -> Option<u8>
-    ensures { result ≡ seek (lasts_for d (cells_of row.now.bytes)) 0 (family bank.now).count }
+    ensures { result ≡ seek (lasts_for d (cells_of row.now.bytes)) 0 (B.family bank.now).count }
 {
     for part in 0..bank.part_count() {
         if !lasts_for(row, part, d) {

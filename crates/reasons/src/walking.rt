@@ -26,7 +26,7 @@ pub fn move_of(kind: u8, high: u8, low: u8) -> Option<Move>
 }
 
 fn walk<B: Bank>(bank: &B, wiring: &Wiring, body: &[u8], steps: usize) -> Row
-    ensures { take (family bank.now).count (cells_of result.bytes) ≡ walked (scheme (family bank.now) (wiring_of wiring.now)) steps (row (start (scheme (family bank.now) (wiring_of wiring.now)))) body.now }
+    ensures { take (B.family bank.now).count (cells_of result.bytes) ≡ walked (scheme (B.family bank.now) (wiring_of wiring.now)) steps (row (start (scheme (B.family bank.now) (wiring_of wiring.now)))) body.now }
 {
     let mut row = start(bank);
     let mut left = body;
@@ -47,7 +47,7 @@ fn walk<B: Bank>(bank: &B, wiring: &Wiring, body: &[u8], steps: usize) -> Row
 
 // The row after so many steps from the start, allowed or not, or after all that there are before bytes that are no step.
 pub fn walk_to<B: Bank>(bank: &B, wiring: &Wiring, body: &[u8], steps: usize) -> Row
-    ensures { take (family bank.now).count (cells_of result.bytes) ≡ walked (scheme (family bank.now) (wiring_of wiring.now)) steps (row (start (scheme (family bank.now) (wiring_of wiring.now)))) body.now }
+    ensures { take (B.family bank.now).count (cells_of result.bytes) ≡ walked (scheme (B.family bank.now) (wiring_of wiring.now)) steps (row (start (scheme (B.family bank.now) (wiring_of wiring.now)))) body.now }
 {
     walk(bank, wiring, body, steps)
 }

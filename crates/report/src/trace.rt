@@ -57,7 +57,7 @@ pub fn follow_part<B: Bank>(
     part: u8,
     moves: &[PartMove],
 ) -> Result<Option<Followed>, AllocError>
-    ensures { IfOk result (λ o. told o ≡ stuck_in (family bank.now) part moves.now) }
+    ensures { IfOk result (λ o. told o ≡ stuck_in (B.family bank.now) part moves.now) }
 {
     let Some(mut state) = begin(bank, part) else {
         return Ok(None);

@@ -1,6 +1,6 @@
 -- The body of a set file, row by row, and the length in its head.
 use Rattle.std.proofs.Common.{◌≡◌, ℕ, suc, ◌+◌, ◌*◌, ◌/◌, ◌%◌, ◌<◌, ◌≤◌, List, [], ◌∷◌, ◌++◌, map, length, sym, ap, ◌∙◌, mul-div_cancel, arith}
-use Rattle.std.specs.List.{flat_map, range_with_len, AllByRecursion as All}
+use Rattle.std.specs.List.{flat_map, range_with_len, AllByRecursion}
 use Rattle.std.proofs.lemmas.List.{length-take-le, length-map, get_or-map}
 use Rattle.std.proofs.lemmas.List.FromFn.{fill_by_all}
 use Rattle.std.proofs.lemmas.Nat.{shr-shr, div-add-mod'}
@@ -11,7 +11,7 @@ use Rattle.set_file.specs.Writing.{row_at, Whole}
 use Rattle.set_file.proofs.Stretches.{joined_length, joined_stretch}
 
 module _ (w : ℕ) (small : w ≤ 48) where
-  fronts : (rows : List Row) → Whole rows (length rows) → All (λ r. length (front w r) ≡ w) rows
+  fronts : (rows : List Row) → Whole rows (length rows) → AllByRecursion (λ r. length (front w r) ≡ w) rows
   fronts [] f = tt
   fronts (r ∷ rows) f =
       (length-take-le w r.bytes (omega (arith, f 0 (omega arith))), fronts rows (λ k h. f (suc k) (omega arith)))

@@ -1,16 +1,16 @@
 -- Pieces of equal length, one behind the other: how long they are together, and where each stands.
 use Rattle.std.proofs.Common.{◌≡◌, ℕ, zero, suc, ◌+◌, ◌*◌, ◌<◌, List, [], ◌∷◌, ◌++◌, length, get_or, take, drop, sym, ap, ◌∙◌, suc-mul, add-mul, zero-mul, arith, length-append, take-add}
-use Rattle.std.specs.List.{range_with_len, flat_map, AllByRecursion as All}
+use Rattle.std.specs.List.{range_with_len, flat_map, AllByRecursion}
 use Rattle.std.proofs.lemmas.List.{take_at, drop_at, drop-drop}
 use Rattle.set_file.specs.Layout.{stretch}
 
 module _ {X : Type 0} (w : ℕ) (f : X → List ℕ) where
-  pub joined_length : (xs : List X) → All (λ x. length (f x) ≡ w) xs → length (flat_map f xs) ≡ length xs * w
+  pub joined_length : (xs : List X) → AllByRecursion (λ x. length (f x) ≡ w) xs → length (flat_map f xs) ≡ length xs * w
   joined_length [] h = sym (zero-mul w)
   joined_length (x ∷ xs) h =
       length-append (f x) (flat_map f xs) ∙ omega (arith, h.0, joined_length xs h.1, suc-mul (length xs) w)
 
-  pub joined_stretch : (xs : List X) → All (λ x. length (f x) ≡ w) xs → (k : ℕ) (d : X) → k < length xs →
+  pub joined_stretch : (xs : List X) → AllByRecursion (λ x. length (f x) ≡ w) xs → (k : ℕ) (d : X) → k < length xs →
       stretch w (flat_map f xs) k ≡ f (get_or xs k d)
   joined_stretch [] h k d l = absurd (omega arith)
   joined_stretch (x ∷ xs) h zero d l =

@@ -1,6 +1,6 @@
 -- Bytes are what their cells write, and short cells are what their bytes write.
 use Rattle.std.proofs.Common.{◌≡◌, ℕ, zero, suc, ◌+◌, ◌*◌, ◌/◌, ◌%◌, ◌<◌, ◌≤◌, false, eqb, List, [], ◌∷◌, ◌++◌, length, take, sym, refl, ap, ◌∙◌, ⊎_elim, arith}
-use Rattle.std.specs.List.{AllByRecursion as All}
+use Rattle.std.specs.List.{AllByRecursion}
 use Rattle.std.proofs.ByRecursion.{All-take}
 use Rattle.std.proofs.lemmas.List.{length-take-le}
 use Rattle.std.proofs.lemmas.Bool.{cases_Bool, eqb-true, ne_eqb}
@@ -12,7 +12,7 @@ use Rattle.stepping.specs.RowBytes.{Bytes, span_of, cell_of, cells_of, span_byte
 use Rattle.stepping.proofs.Shorts.{short_read}
 
 abbrev pub Shorts : Row → Type 0
-Shorts r = All (λ c. Short c.remaining) r
+Shorts r = AllByRecursion (λ c. Short c.remaining) r
 
 next : (n : ℕ) → 3 * suc n ≡ suc (suc (suc (3 * n)))
 next n = omega arith

@@ -1,7 +1,7 @@
 -- A row as bytes: three for each part, the phase and then the remaining ticks in two, high byte first, FF FF for
 -- unlimited. Assumes nothing.
 use Rattle.std.specs.Prelude.{ℕ, ◌+◌, ◌*◌, ◌/◌, ◌%◌, ◌<◌, cond, List, [], ◌∷◌, ◌++◌, ◌==◌}
-use Rattle.std.specs.List.{AllByRecursion as All}
+use Rattle.std.specs.List.{AllByRecursion}
 use Rattle.fddevs.specs.declared.part.Cell.{Cell}
 use Rattle.fddevs.specs.declared.part.Span.{Span}
 use Rattle.fddevs.specs.declared.part.Span.TheVariants.{Ticks, Unlimited}
@@ -9,7 +9,7 @@ use Rattle.fddevs.specs.Rows.{Row}
 
 -- each number is a byte, as in every file
 abbrev pub Bytes : List ℕ → Type 0
-Bytes bs = All (λ b. b < 256) bs
+Bytes bs = AllByRecursion (λ b. b < 256) bs
 
 -- what two bytes write
 abbrev pub span_of : ℕ → Span

@@ -9,8 +9,8 @@ use fddevs::part::{Cell, Mark, Output, Span};
 
 // A phase with its own lifespan, from the beginning.
 fn fresh<B: Bank>(bank: &B, part: u8, phase: u8) -> Cell
-    requires { part < (family bank.now).count }
-    ensures { result ≡ cell_fresh (machine (family bank.now) part) phase }
+    requires { part < (B.family bank.now).count }
+    ensures { result ≡ cell_fresh (machine (B.family bank.now) part) phase }
 {
     Cell {
         phase,
@@ -19,16 +19,16 @@ fn fresh<B: Bank>(bank: &B, part: u8, phase: u8) -> Cell
 }
 
 pub(crate) fn begin<B: Bank>(bank: &B, part: u8) -> Cell
-    requires { part < (family bank.now).count }
-    ensures { result ≡ cell_fresh (machine (family bank.now) part) (machine (family bank.now) part).start }
+    requires { part < (B.family bank.now).count }
+    ensures { result ≡ cell_fresh (machine (B.family bank.now) part) (machine (B.family bank.now) part).start }
 {
     let phase = bank.start(part).unwrap_or(0);
     fresh(bank, part, phase)
 }
 
 pub(crate) fn after_input<B: Bank>(bank: &B, part: u8, input: u8, cell: Cell) -> Cell
-    requires { part < (family bank.now).count }
-    ensures { result ≡ cell_input (machine (family bank.now) part) input cell }
+    requires { part < (B.family bank.now).count }
+    ensures { result ≡ cell_input (machine (B.family bank.now) part) input cell }
 {
     let Some(external) = bank.external(part, cell.phase, input) else {
         return cell;
@@ -43,8 +43,8 @@ pub(crate) fn after_input<B: Bank>(bank: &B, part: u8, input: u8, cell: Cell) ->
 }
 
 pub(crate) fn after_internal<B: Bank>(bank: &B, part: u8, cell: Cell) -> Cell
-    requires { part < (family bank.now).count }
-    ensures { result ≡ cell_internal (machine (family bank.now) part) cell }
+    requires { part < (B.family bank.now).count }
+    ensures { result ≡ cell_internal (machine (B.family bank.now) part) cell }
 {
     let next = bank.next(part, cell.phase).unwrap_or(cell.phase);
     fresh(bank, part, next)
@@ -52,8 +52,8 @@ pub(crate) fn after_internal<B: Bank>(bank: &B, part: u8, cell: Cell) -> Cell
 
 // What the internal step from a phase sends.
 pub(crate) fn output<B: Bank>(bank: &B, part: u8, phase: u8) -> Output
-    requires { part < (family bank.now).count }
-    ensures { result ≡ (machine (family bank.now) part).output phase }
+    requires { part < (B.family bank.now).count }
+    ensures { result ≡ (machine (B.family bank.now) part).output phase }
 {
     bank.output(part, phase).unwrap_or(Output::Silent)
 }

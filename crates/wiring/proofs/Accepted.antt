@@ -1,6 +1,6 @@
 -- Which files are accepted.
 use Rattle.std.proofs.Common.{◌≡◌, ℕ, zero, suc, ◌+◌, ◌-◌, ◌*◌, ◌/◌, ◌%◌, ◌<◌, ◌≤◌, true, not, eqb, leb, List, length, get_or, is_ok, Ok, Err, sym, refl, ap, ◌∙◌, subst, sub-one, arith}
-use Rattle.std.specs.List.{AllByRecursion as All}
+use Rattle.std.specs.List.{AllByRecursion}
 use Rattle.std.proofs.ByRecursion.{All-get_or, All-from_get_or}
 use Rattle.std.proofs.lemmas.Bool.{and_parts, and_from, or_right, eqb-true, eq-eqb, leb-true, le-leb}
 use Rattle.std.proofs.lemmas.Bool.Decides.{nat_tests}
@@ -65,7 +65,7 @@ whole f e =
     let four = eqb-true ((length f - 5) % 4) 0 b.1 in
     record { long = long; rest = eqb-true _ _ b.0; exact = omega arith }
 
-module _ (F : Family) (f : List ℕ) (small : All (λ b. b < 256) f) (ok : is_ok (vetting F f) ≡ true) where
+module _ (F : Family) (f : List ℕ) (small : AllByRecursion (λ b. b < 256) f) (ok : is_ok (vetting F f) ≡ true) where
   both : (is_ok (head_vetting f) ≡ true) × (is_ok (wires_vetting F (held f)) ≡ true)
   both = then_ok (head_vetting f) (wires_vetting F (held f)) ok
 
@@ -110,7 +110,7 @@ pub accepted_ok : (v : Vetted) (U W : Wiring) → accepted v U ≡ Ok W → (is_
 accepted_ok (Ok x) U W e = (refl, cc)
 accepted_ok (Err x) U W e = let z : ◌≡◌ {A = ℕ} 0 1 = cc in absurd (omega arith)
 
-forth : (F : Family) (f : List ℕ) (W : Wiring) → All (λ b. b < 256) f → reading F f ≡ Ok W →
+forth : (F : Family) (f : List ℕ) (W : Wiring) → AllByRecursion (λ b. b < 256) f → reading F f ≡ Ok W →
     (f ≡ file_of W) × KeepsWiringRules F W
 forth F f W small e =
     let p = accepted_ok (vetting F f) (held f) W e in

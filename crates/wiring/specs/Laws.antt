@@ -1,6 +1,6 @@
 -- The rules of wirings, which files are accepted, and which refusal is given, as statements.
 use Rattle.std.specs.Prelude.{◌≡◌, ℕ, ◌+◌, ◌*◌, ◌/◌, ◌%◌, ◌<◌, ◌≤◌, true, false, ◌↔◌, List, [], ◌∷◌, ◌++◌, length, Ok, Err, ◌≢◌}
-use Rattle.std.specs.List.{AllByRecursion as All}
+use Rattle.std.specs.List.{AllByRecursion}
 use Rattle.fddevs.specs.declared.refusal.Layer.TheVariants.{Wiring as in_wiring}
 use Rattle.fddevs.specs.declared.refusal.Refusal.{Refusal}
 use Rattle.fddevs.specs.declared.refusal.Refusal.TheVariants.{NotWhole, Version, WiringCounts}
@@ -50,12 +50,12 @@ pub record KeepsWiringRules (F : Family) (W : Wiring) : Type 0 where
   pub ascending : (j k : ℕ) → j < k → k < length W.wires →
       before (bytes (nth W.wires j)) (bytes (nth W.wires k)) ≡ true
   pub apart : (j k : ℕ) → j < k → k < length W.wires → SameStart (nth W.wires j) (nth W.wires k) → ⊥
-  pub ends : All (EndsExist F W) W.wires
+  pub ends : AllByRecursion (EndsExist F W) W.wires
 
 -- A file of bytes is read as a wiring exactly where it is that wiring's file and the wiring keeps the rules.
 abbrev pub AcceptsExactly : Type 0
 AcceptsExactly =
-    (F : Family) (f : List ℕ) (W : Wiring) → All (λ b. b < 256) f →
+    (F : Family) (f : List ℕ) (W : Wiring) → AllByRecursion (λ b. b < 256) f →
     (reading F f ≡ Ok W) ↔ ((f ≡ file_of W) × KeepsWiringRules F W)
 
 -- what is at fault in a file, and the refusal for it

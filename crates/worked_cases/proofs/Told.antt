@@ -1,6 +1,6 @@
 -- The cases hold: every answer computes.
 use Rattle.std.proofs.Common.{◌≡◌, ℕ, ◌<◌, true, ltb, List, [], ◌∷◌, Ok, Err, refl}
-use Rattle.std.specs.List.{AllByRecursion as All}
+use Rattle.std.specs.List.{AllByRecursion}
 use Rattle.std.proofs.lemmas.Bool.{ltb-true, and_parts}
 use Rattle.fddevs.specs.declared.refusal.Refusal.TheVariants.{RowBarred, RowLeaves, StartAbsent, StepNotAllowed, EndNotBarred}
 use Rattle.fddevs.specs.Machine.{Family}
@@ -24,7 +24,7 @@ at p s = record { part = p; phase = s } ∷ []
 fresh : (F : Family) → Led F [] begun
 fresh F = begins
 
-pub cases_hold : All Holds cases
+pub cases_hold : AllByRecursion Holds cases
 cases_hold =
     let one = goes (wire_call one_wiring (Ok tt)) (fresh one_timer) (bytes one_wiring refl, refl) in
     let set = goes (verdict_call Clear) (goes (offer_call six_rows (Ok Set)) one (bytes six_rows refl, refl)) refl in
