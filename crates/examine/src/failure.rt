@@ -2,7 +2,7 @@
 use std::alloc::AllocError;
 use std::{fmt, io};
 
-#[derive(Drop)]
+#[derive(Debug, Drop)]
 pub enum Failure {
     // the file, the line where there is one, and what was wrong
     Told(String),
