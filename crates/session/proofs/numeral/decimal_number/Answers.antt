@@ -4,7 +4,7 @@ use Rattle.session.proofs.numeral.decimal_number.Goals as goal
 
 pub returns-in_err-value : goal.returns-in_err-value
 returns-in_err-value c =
-    c.from-residual.ensures ∙
+    c.from_residual.ensures ∙
     breaks_off c.args.text.now c.loop-b.b-index c.loop-b.value c.loop-b-test.true
     c.in_err-value.ensures c.loop-b.invariant
 
