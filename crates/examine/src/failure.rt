@@ -2,7 +2,7 @@
 use std::alloc::AllocError;
 use std::{fmt, io};
 
-#[derive(Debug, Drop)]
+#[derive(Drop)]
 pub enum Failure {
     // the file, the line where there is one, and what was wrong
     Told(String),

@@ -6,6 +6,7 @@ mod line;
 
 use crate::banks::run_session;
 use crate::failure::Failure;
+use std::process::ExitCode;
 use std::{env, fs, io};
 
 fn run_file(rt: &HostRuntime, path: &str) -> Result<(), Failure> {
@@ -32,10 +33,12 @@ fn run(rt: &HostRuntime) -> Result<(), Failure> {
     Ok(())
 }
 
-fn main(rt: HostRuntime) -> Result<(), Failure> {
-    let answer = run(&rt);
-    if let Err(failure) = &answer {
-        let _ = eprintln!(rt; "examine: {failure}");
+fn main(rt: HostRuntime) -> ExitCode {
+    match run(&rt) {
+        Ok(()) => ExitCode::SUCCESS,
+        Err(failure) => {
+            let _ = eprintln!(rt; "examine: {failure}");
+            ExitCode::FAILURE
+        }
     }
-    answer
 }
