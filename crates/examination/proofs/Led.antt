@@ -2,7 +2,7 @@
 use Rattle.std.proofs.Common.{◌≡◌, ◌∷◌, sym, refl, subst}
 use Rattle.fddevs.specs.Machine.{Family, WithinLimits}
 use Rattle.history.specs.Held.{Held}
-use Rattle.history.specs.History.{Call, verdict_call, History}
+use Rattle.history.specs.History.{Call, verdict_call}
 use Rattle.history.specs.Led.{Answered, leaves, Led, goes}
 use Rattle.history.proofs.Lawful.{law_of}
 use Rattle.examination.specs.Leads.{Leads, HoldsTheLaw}

@@ -1,5 +1,5 @@
 -- What the calls of an examination promise of the calls before them. Assumes nothing.
-use Rattle.std.specs.Prelude.{◌≡◌, ◌∷◌}
+use Rattle.std.specs.Prelude.{◌∷◌}
 use Rattle.fddevs.specs.Machine.{Family}
 use Rattle.history.specs.History.{Call, verdict_call, History}
 use Rattle.history.specs.Law.{Law}

@@ -1,4 +1,6 @@
 // An examination: a bank with a wiring, the bars that stand, and a verdict.
+#![tactic(auto)]
+
 pub mod examination;
 mod standing;
 #[cfg(test)]

@@ -1,4 +1,6 @@
 // examine SESSION ..: reads sessions, one command a line, and prints an answer for each.
+#![tactic(auto)]
+
 mod banks;
 mod calls;
 mod failure;

@@ -1,5 +1,5 @@
 -- The law holds wherever calls lead.
-use Rattle.std.proofs.Common.{◌≡◌, ℕ, Bool, true, false, ◌||◌, ◌⊎◌, ◌↔◌, List, [], ◌∷◌, ◌++◌, is_ok, Ok, Err, Result, sym, refl, ap, ◌∙◌, subst, inl, inr, ⊎_elim, arith}
+use Rattle.std.proofs.Common.{◌≡◌, ℕ, true, ◌⊎◌, ◌↔◌, List, [], ◌∷◌, ◌++◌, Ok, Err, Result, sym, refl, ap, ◌∙◌, subst, inl, inr, ⊎_elim, arith}
 use Rattle.std.proofs.lemmas.Bool.{or_cases, or_left, or_right, false≢true}
 use Rattle.fddevs.specs.declared.refusal.Refusal.{Refusal}
 use Rattle.fddevs.specs.Machine.{Family, WithinLimits}
@@ -23,7 +23,7 @@ use Rattle.proof_rules.specs.Rules.{Bars, phases}
 use Rattle.proof_rules.proofs.Judged.{judged_by_the_rules}
 use Rattle.proof_rules.proofs.Sound.{sets_sound, witnesses_sound}
 use Rattle.history.specs.Held.{Held, begun, answer_of, after_wire, after_bar, after_offer}
-use Rattle.history.specs.History.{Call, wire_call, bar_call, offer_call, verdict_call, History, wiring_held, bars_held, NewWiring, NewBar, Accepts, Since, just, still, Gives, Throughout}
+use Rattle.history.specs.History.{Call, wire_call, bar_call, offer_call, verdict_call, History, wiring_held, bars_held, NewWiring, NewBar, Accepts, Since, just, still, Gives}
 use Rattle.history.specs.Law.{Right, Law, LawfulThroughout}
 use Rattle.history.specs.Led.{Answered, leaves, Led, begins, goes}
 use Rattle.history.specs.Verdicts.{with_bar}

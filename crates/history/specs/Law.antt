@@ -1,5 +1,5 @@
 -- The law over every order of calls on an examination. Assumes nothing.
-use Rattle.std.specs.Prelude.{◌≡◌, ◌↔◌, List, Ok}
+use Rattle.std.specs.Prelude.{◌≡◌, ◌↔◌, Ok}
 use Rattle.fddevs.specs.Machine.{Family, WithinLimits}
 use Rattle.wiring.specs.File.{held}
 use Rattle.wiring.specs.Laws.{file_of, KeepsWiringRules}

@@ -1,9 +1,8 @@
 -- The row that a record holds after it was loaded.
-use Rattle.std.proofs.Common.{◌≡◌, ℕ, ◌*◌, ◌/◌, ◌<◌, ◌≤◌, Bool, true, false, cond, ltb, List, ◌++◌, length, take, drop, Ok, Err, sym, refl, ap, ◌∙◌, subst, ap₂, div-mul-le_self, arith}
+use Rattle.std.proofs.Common.{◌≡◌, ℕ, ◌<◌, ◌≤◌, Bool, true, false, ltb, List, ◌++◌, length, take, drop, Ok, Err, sym, ap, ◌∙◌, ap₂, div-mul-le_self, arith}
 use Rattle.std.proofs.lemmas.List.{take_at}
 use Rattle.std.proofs.lemmas.Bool.{lt-ltb, cond-true}
 use Rattle.fddevs.specs.declared.refusal.Refusal.{Refusal}
-use Rattle.fddevs.specs.Rows.{Row}
 use Rattle.fddevs.specs.Vetting.{seek, found}
 use Rattle.fddevs.proofs.Vetting.{first_some, first_none}
 use Rattle.set_file.specs.Layout.{some_parts, width, stretch, row_count}

@@ -1,8 +1,7 @@
 -- A record that is found among the rows of a set, and one that is not.
-use Rattle.std.proofs.Common.{◌≡◌, ℕ, zero, suc, ◌+◌, ◌*◌, ◌/◌, ◌<◌, ◌≤◌, Bool, true, false, cond, leb, List, [], ◌∷◌, length, take, Ok, sym, refl, ap, ◌∙◌, subst, ⊎_elim, div-mul-le_self, arith, length-take}
+use Rattle.std.proofs.Common.{◌≡◌, ℕ, zero, suc, ◌*◌, ◌<◌, ◌≤◌, true, false, List, [], ◌∷◌, length, take, Ok, sym, refl, ap, ◌∙◌, subst, ⊎_elim, div-mul-le_self, arith, length-take}
 use Rattle.std.specs.List.{ContainsAt as Has}
 use Rattle.std.proofs.ByRecursion.{All-take}
-use Rattle.std.proofs.lemmas.List.{length-take-le}
 use Rattle.std.proofs.lemmas.Bool.{and_from, le-leb, cond-true, cases_Bool}
 use Rattle.fddevs.specs.declared.refusal.Layer.TheVariants.{Proof}
 use Rattle.fddevs.specs.declared.refusal.Refusal.TheVariants.{RowOrder}

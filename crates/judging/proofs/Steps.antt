@@ -1,13 +1,12 @@
 -- The steps of a witness, one after another.
-use Rattle.std.proofs.Common.{◌≡◌, ℕ, zero, suc, ◌+◌, ◌-◌, ◌<◌, ◌≤◌, true, cond, List, [], ◌∷◌, ◌++◌, length, get_or, take, drop, replicate, Some, Err, sym, refl, ap, ◌∙◌, ap₂, arith, length-append, length-drop}
+use Rattle.std.proofs.Common.{◌≡◌, ℕ, ◌+◌, ◌-◌, ◌≤◌, true, cond, List, [], ◌∷◌, length, get_or, take, drop, replicate, Some, Err, sym, refl, ap, ◌∙◌, ap₂, arith, length-append, length-drop}
 use Rattle.std.proofs.lemmas.List.{length-map, length-replicate, take_rest}
 use Rattle.fddevs.specs.declared.refusal.Refusal.TheVariants.{StepNotAllowed}
 use Rattle.fddevs.specs.declared.scheme.Move.{Move}
 use Rattle.fddevs.specs.Machine.{Family, WithinLimits}
 use Rattle.fddevs.specs.Part.{begin}
-use Rattle.fddevs.specs.Rows.{Row, cell, row, row_after, row_allows}
-use Rattle.fddevs.specs.Scheme.{Wiring, Scheme, scheme, start}
-use Rattle.stepping.specs.RowBytes.{cells_of}
+use Rattle.fddevs.specs.Rows.{Row, cell, row, row_after}
+use Rattle.fddevs.specs.Scheme.{Wiring, scheme, start}
 use Rattle.stepping.specs.Stepping.{no_cell, start_cells, cells_after, cells_allow}
 use Rattle.stepping.proofs.Fronts.{take_after, length_after, take_start}
 use Rattle.stepping.proofs.Made.{count_parts}

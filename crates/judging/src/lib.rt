@@ -1,4 +1,6 @@
 // Proof files judged: a set by its rows, a witness by its steps.
+#![tactic(auto)]
+
 pub mod barring;
 mod closing;
 pub mod judging;

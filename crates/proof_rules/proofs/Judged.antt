@@ -1,7 +1,7 @@
 -- A proof file is accepted exactly when it keeps the rules.
-use Rattle.std.proofs.Common.{◌≡◌, ℕ, ◌+◌, ◌*◌, ◌/◌, ◌%◌, ◌<◌, ◌≤◌, Bool, true, false, cond, ◌&&◌, eqb, leb, List, [], ◌∷◌, ◌++◌, length, get_or, drop, Ok, Err, Result, sym, refl, ap, ◌∙◌, subst, ap₂, arith}
+use Rattle.std.proofs.Common.{◌≡◌, ℕ, ◌+◌, ◌*◌, ◌/◌, ◌%◌, ◌<◌, ◌≤◌, cond, eqb, leb, List, [], ◌∷◌, ◌++◌, length, get_or, drop, Ok, Err, Result, sym, refl, ap, ◌∙◌, subst, ap₂, arith}
 use Rattle.std.proofs.lemmas.List.FromFn.{length-map-range_with_len}
-use Rattle.std.proofs.lemmas.Bool.{cond_both, eqb-true, eq-eqb, leb-true, le-leb, and_parts, and_from}
+use Rattle.std.proofs.lemmas.Bool.{cond_both, eqb-true, eq-eqb, leb-true, le-leb, and_parts}
 use Rattle.fddevs.specs.declared.refusal.Layer.TheVariants.{Proof}
 use Rattle.fddevs.specs.declared.refusal.Refusal.{Refusal}
 use Rattle.fddevs.specs.declared.refusal.Refusal.TheVariants.{NotWhole, Version, Kind}
@@ -16,10 +16,10 @@ use Rattle.proof_rules.specs.declared.evidence.Evidence.{Evidence}
 use Rattle.proof_rules.specs.declared.evidence.Evidence.TheVariants.{Set, Witness}
 use Rattle.proof_rules.specs.Files.{Bytes, proof_file, rows_bytes, steps_bytes}
 use Rattle.proof_rules.specs.Judging.{set_vetting, witness_vetting, judged_as, unless_refused, head_vetting, judgement}
-use Rattle.proof_rules.specs.Laws.{ByTheRules, JudgedByTheRules}
+use Rattle.proof_rules.specs.Laws.{JudgedByTheRules}
 use Rattle.proof_rules.specs.Rules.{Bars, KeepsSetRules, KeepsWitnessRules}
-use Rattle.proof_rules.proofs.Sets.{SetBody, set_to, set_from}
-use Rattle.proof_rules.proofs.Walks.{Walked, witness_to, witness_from, unless_true}
+use Rattle.proof_rules.proofs.Sets.{set_to, set_from}
+use Rattle.proof_rules.proofs.Walks.{witness_to, witness_from}
 
 never : {A : Type 0} {x : Evidence} {e : Refusal} → ◌≡◌ {A = Result Evidence Refusal} (Err e) (Ok x) → A
 never h = let z : ◌≡◌ {A = ℕ} 0 1 = cc in absurd (omega arith)

@@ -1,12 +1,12 @@
 -- A witness is refused for the first step at fault, or for its end; a proof file for the smallest of its faults.
-use Rattle.std.proofs.Common.{◌≡◌, ℕ, zero, suc, ◌+◌, ◌<◌, ◌≤◌, Bool, true, false, cond, eqb, ◌⊎◌, List, [], ◌∷◌, ◌++◌, get_or, drop, Some, None, Ok, Err, Option, Result, sym, refl, ap, ◌∙◌, subst, ap₂, inl, inr, ⊎_elim, le_refl, add-zero, arith}
+use Rattle.std.proofs.Common.{◌≡◌, ℕ, suc, ◌+◌, ◌<◌, ◌≤◌, Bool, true, false, cond, eqb, ◌⊎◌, List, [], ◌∷◌, ◌++◌, get_or, drop, Some, None, Ok, Err, Option, Result, sym, refl, ap, ◌∙◌, subst, ap₂, inl, inr, ⊎_elim, le_refl, add-zero, arith}
 use Rattle.std.proofs.lemmas.Bool.{cases_Bool, both_ways, eqb-true, eqb-false, ne_eqb}
 use Rattle.fddevs.specs.declared.refusal.Layer.TheVariants.{Proof}
 use Rattle.fddevs.specs.declared.refusal.Refusal.{Refusal}
 use Rattle.fddevs.specs.declared.refusal.Refusal.TheVariants.{NotWhole, Version, Kind, Body, StepNotAllowed, EndNotBarred}
 use Rattle.fddevs.specs.declared.scheme.Move.{Move}
 use Rattle.fddevs.specs.Laws.{InTime, Allowed}
-use Rattle.fddevs.specs.Refusals.{number_of, place_of}
+use Rattle.fddevs.specs.Refusals.{number_of}
 use Rattle.fddevs.specs.Rows.{Row, row, row_after, row_allows}
 use Rattle.fddevs.specs.Machine.{Family}
 use Rattle.fddevs.specs.Scheme.{Wiring, Scheme, scheme, State, Step, Run, stop, step, start}

@@ -1,19 +1,18 @@
 -- A set's body passes exactly where it is the bytes of rows that keep the rules.
-use Rattle.std.proofs.Common.{◌≡◌, ℕ, zero, suc, ◌+◌, ◌-◌, ◌*◌, ◌/◌, ◌%◌, ◌<◌, ◌≤◌, Bool, true, false, not, ◌&&◌, ◌||◌, eqb, ltb, leb, List, [], ◌∷◌, ◌++◌, map, length, get_or, take, drop, Ok, Err, Ordering, Less, Equal, Greater, sym, refl, ap, ◌∙◌, subst, ap₂, suc-mul, mul_comm, mul-zero, zero-mul, mul-div_cancel, arith}
+use Rattle.std.proofs.Common.{◌≡◌, ℕ, zero, suc, ◌+◌, ◌-◌, ◌*◌, ◌/◌, ◌%◌, ◌<◌, ◌≤◌, true, not, ◌||◌, ltb, leb, List, [], ◌∷◌, ◌++◌, map, length, get_or, take, drop, Ok, Ordering, Less, Equal, Greater, sym, refl, ap, ◌∙◌, subst, ap₂, suc-mul, mul_comm, zero-mul, mul-div_cancel, arith}
 use native.Mathlib.Nat.{div-add-mod, mul-mod_left}
 use Rattle.std.specs.List.{range_with_len, ContainsAt as Has, flat_map, AllByRecursion}
 use Rattle.std.specs.Ordering.{is_lt}
-use Rattle.std.proofs.lemmas.List.FromFn.{length-map-range_with_len, get_or-map-range_with_len, fill_by_all, length-range_with_len}
+use Rattle.std.proofs.lemmas.List.FromFn.{length-map-range_with_len, get_or-map-range_with_len, fill_by_all}
 use Rattle.std.proofs.ByRecursion.{All-take, All-drop, All-get_or, All-from_get_or, All-weaker}
 use Rattle.std.proofs.lemmas.List.{length-take-le, length-drop, take_all}
 use Rattle.std.proofs.lemmas.Bool.{and_parts, and_from, eqb-true, eq-eqb, ne_eqb, leb-true, le-leb, ltb-true, lt-ltb, false≢true}
 use Rattle.fddevs.specs.declared.refusal.Layer.TheVariants.{Proof}
-use Rattle.fddevs.specs.declared.refusal.Refusal.{Refusal}
 use Rattle.fddevs.specs.declared.refusal.Refusal.TheVariants.{Body, RowPhase, RowOrder, StartAbsent, RowBarred, RowLeaves}
-use Rattle.fddevs.specs.Machine.{Machine, Short}
-use Rattle.fddevs.specs.Rows.{Row, row}
-use Rattle.fddevs.specs.Scheme.{Scheme, start}
-use Rattle.fddevs.specs.Vetting.{Vetted, then, unless, seek, found}
+use Rattle.fddevs.specs.Machine.{Machine}
+use Rattle.fddevs.specs.Rows.{Row}
+use Rattle.fddevs.specs.Scheme.{Scheme}
+use Rattle.fddevs.specs.Vetting.{Vetted, then, unless, found}
 use Rattle.bars.specs.Bars.{barred}
 use Rattle.book.specs.Records.{byte_order}
 use Rattle.set_file.specs.Layout.{width, body_fits, stretch, row_count}
@@ -23,7 +22,7 @@ use Rattle.set_file.proofs.Seeking.{seek_passed, seek_passes, then_passed, unles
 use Rattle.set_file.proofs.Stretches.{joined_length, joined_stretch, stretches}
 use Rattle.stepping.specs.RowBytes.{cells_of, row_bytes}
 use Rattle.proof_rules.specs.Files.{Bytes, rows_bytes}
-use Rattle.proof_rules.specs.Judging.{row_at, rows_in, in_order, phases_exist, among, all_stay, phases_vetting, order_vetting, start_vetting, bars_vetting, steps_vetting, rows_vetting, is_rows, set_vetting}
+use Rattle.proof_rules.specs.Judging.{row_at, rows_in, in_order, phases_exist, all_stay, phases_vetting, order_vetting, start_vetting, bars_vetting, steps_vetting, rows_vetting, is_rows, set_vetting}
 use Rattle.proof_rules.specs.Rules.{Bars, row_phases, OfParts, Ascending, Closed}
 use Rattle.stepping.proofs.Written.{Shorts, bytes_back, read_short, cells_back}
 use Rattle.proof_rules.proofs.Codec.{row_length}

@@ -1,13 +1,13 @@
 -- What a set and a witness show.
-use Rattle.std.proofs.Common.{◌≡◌, ℕ, zero, suc, true, false, ◌⊎◌, List, [], ◌∷◌, map, replicate, sym, refl, ap, ◌∙◌, subst, inl, inr}
+use Rattle.std.proofs.Common.{◌≡◌, ℕ, zero, suc, false, List, [], ◌∷◌, replicate, sym, refl, ap, ◌∙◌, subst, inl, inr}
 use Rattle.std.specs.List.{ContainsAt as Has}
 use Rattle.fddevs.specs.declared.scheme.Move.{Move}
 use Rattle.fddevs.specs.declared.scheme.Move.TheVariants.{Outer, Internal, Delay}
-use Rattle.fddevs.specs.Scheme.{Scheme, State, Step, comes, fires, elapses, Run, stop, step, Enters, Entered, start}
+use Rattle.fddevs.specs.Scheme.{Scheme, State, Step, comes, fires, elapses, Run, stop, step, Enters, Entered}
 use Rattle.fddevs.specs.Rows.{Row, row}
 use Rattle.fddevs.proofs.Delays.{first, ended, split}
 use Rattle.bars.specs.Bars.{barred}
-use Rattle.proof_rules.specs.Rules.{Bars, phases, row_phases, single, Closed}
+use Rattle.proof_rules.specs.Rules.{Bars, phases, row_phases, Closed}
 use Rattle.proof_rules.specs.Laws.{SetsSound, WitnessesSound}
 
 pub phases_of : (s : State) → row_phases (row s) ≡ phases s

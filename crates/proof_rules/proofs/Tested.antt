@@ -1,10 +1,8 @@
 -- The tests of a set's rows pass exactly where the rows are closed.
-use Rattle.std.proofs.Common.{◌≡◌, ℕ, zero, suc, ◌+◌, ◌<◌, ◌≤◌, Bool, true, false, not, ◌&&◌, ◌||◌, eqb, ◌⊎◌, List, [], ◌∷◌, map, length, get_or, sym, refl, ap, ◌∙◌, subst, ap₂, inl, inr, ⊎_elim, arith}
+use Rattle.std.proofs.Common.{◌≡◌, ℕ, zero, suc, ◌<◌, true, false, not, ◌⊎◌, List, [], ◌∷◌, map, length, get_or, sym, refl, ap, ◌∙◌, subst, ap₂, inl, inr, ⊎_elim, arith}
 use native.Mathlib.Nat.{sub-zero}
 use Rattle.std.specs.List.{ContainsAt as Has}
 use Rattle.std.proofs.lemmas.Bool.{eqb-true, eq-eqb, ltb-true, and_parts, and_from, or_cases, or_left, or_right, false≢true, not-true, not_from_false, cases_Bool}
-use Rattle.fddevs.specs.declared.part.Cell.{Cell}
-use Rattle.fddevs.specs.declared.part.PartState.{PartState}
 use Rattle.fddevs.specs.declared.part.Span.{Span}
 use Rattle.fddevs.specs.declared.part.Span.TheVariants.{Ticks, Unlimited}
 use Rattle.fddevs.specs.declared.scheme.Move.{Move}
@@ -13,7 +11,7 @@ use Rattle.fddevs.specs.Laws.{InTime}
 use Rattle.fddevs.specs.Machine.{Machine}
 use Rattle.fddevs.specs.Part.{left}
 use Rattle.fddevs.specs.Rows.{Row, row, row_after, row_allows, is_due}
-use Rattle.fddevs.specs.Scheme.{Scheme, State, Step, at, start}
+use Rattle.fddevs.specs.Scheme.{Scheme, State, at, start}
 use Rattle.fddevs.proofs.Cells.{none_within}
 use Rattle.fddevs.proofs.Steps.{forth, back}
 use Rattle.fddevs.proofs.Vetting.{below_true, true_below}

@@ -1,19 +1,18 @@
 -- Judging tells of the faults there are: the smallest number, and of that number the first place.
-use Rattle.std.proofs.Common.{◌≡◌, ℕ, zero, suc, ◌+◌, ◌<◌, ◌≤◌, Bool, true, false, cond, not, eqb, ◌⊎◌, List, [], ◌∷◌, length, get_or, drop, Some, None, Ok, Err, Option, Result, sym, refl, ap, ◌∙◌, subst, inl, inr, ⊎_elim, le_refl, arith}
-use Rattle.std.specs.List.{ContainsAt as Has}
-use Rattle.std.proofs.lemmas.Bool.{cases_Bool, both_ways, false≢true, not_from_false, not_from_true, not-true, eqb-true, eqb-false, eq-eqb, ne_eqb}
+use Rattle.std.proofs.Common.{◌≡◌, ℕ, suc, ◌<◌, ◌≤◌, Bool, true, false, not, ◌⊎◌, List, sym, refl, ap, ◌∙◌, subst, inl, inr, ⊎_elim, arith}
+use Rattle.std.proofs.lemmas.Bool.{cases_Bool, both_ways}
 use Rattle.fddevs.specs.declared.refusal.Layer.TheVariants.{Proof}
 use Rattle.fddevs.specs.declared.refusal.Refusal.{Refusal}
-use Rattle.fddevs.specs.declared.refusal.Refusal.TheVariants.{NotWhole, Version, Kind, Body, RowPhase, RowOrder, StartAbsent, RowBarred, RowLeaves, StepNotAllowed, EndNotBarred}
-use Rattle.fddevs.specs.Rows.{Row, row}
+use Rattle.fddevs.specs.declared.refusal.Refusal.TheVariants.{Body, RowPhase, RowOrder, StartAbsent, RowBarred, RowLeaves}
+use Rattle.fddevs.specs.Rows.{row}
 use Rattle.fddevs.specs.Scheme.{Scheme, start}
-use Rattle.fddevs.specs.Refusals.{number_of, place_of}
-use Rattle.fddevs.specs.Vetting.{Vetted, then, unless, seek, found, NotAfter, Tells}
-use Rattle.fddevs.proofs.Vetting.{tells_unless, tells_found, tells_then, tells_as, Placed, FaultAt}
+use Rattle.fddevs.specs.Refusals.{number_of}
+use Rattle.fddevs.specs.Vetting.{NotAfter, Tells}
+use Rattle.fddevs.proofs.Vetting.{tells_unless, tells_found, tells_then, tells_as, FaultAt}
 use Rattle.bars.specs.Bars.{barred}
 use Rattle.set_file.specs.Layout.{width, row_count}
-use Rattle.proof_rules.specs.Faults.{Stays, SetFault, not_rows, no_phase, not_above, no_start, is_barred, leaves}
-use Rattle.proof_rules.specs.Judging.{row_at, rows_in, phases_exist, in_order, among, all_stay, phases_vetting, order_vetting, start_vetting, bars_vetting, steps_vetting, rows_vetting, is_rows, set_vetting}
+use Rattle.proof_rules.specs.Faults.{SetFault, not_rows, no_phase, not_above, no_start, is_barred, leaves}
+use Rattle.proof_rules.specs.Judging.{row_at, rows_in, phases_exist, in_order, among, all_stay, is_rows, set_vetting}
 use Rattle.proof_rules.specs.Rules.{Bars, row_phases}
 use Rattle.proof_rules.proofs.Tested.{among_has, has_among, stay_to, stay_from}
 

@@ -1,6 +1,6 @@
 -- A witness's body passes exactly where it is the steps of a run to a barred state.
-use Rattle.std.proofs.Common.{◌≡◌, ℕ, zero, suc, ◌+◌, ◌*◌, ◌%◌, ◌<◌, ◌≤◌, Bool, true, false, cond, eqb, leb, List, [], ◌∷◌, ◌++◌, length, Some, None, Ok, Err, Option, sym, refl, ap, ◌∙◌, subst, ap₂, arith}
-use Rattle.std.proofs.lemmas.Bool.{and_parts, and_from, eqb-true, eq-eqb, leb-true, le-leb}
+use Rattle.std.proofs.Common.{◌≡◌, ℕ, ◌+◌, ◌*◌, ◌%◌, ◌≤◌, Bool, true, false, cond, leb, List, [], ◌∷◌, ◌++◌, length, Some, None, Ok, Err, Option, sym, refl, ap, ◌∙◌, ap₂, arith}
+use Rattle.std.proofs.lemmas.Bool.{and_parts, and_from, eq-eqb, leb-true, le-leb}
 use Rattle.fddevs.specs.declared.refusal.Layer.TheVariants.{Proof}
 use Rattle.fddevs.specs.declared.refusal.Refusal.{Refusal}
 use Rattle.fddevs.specs.declared.refusal.Refusal.TheVariants.{Body, StepNotAllowed, EndNotBarred}
@@ -15,7 +15,7 @@ use Rattle.bars.specs.Bars.{barred}
 use Rattle.set_file.proofs.Seeking.{then_passed, unless_passed}
 use Rattle.proof_rules.specs.Files.{Bytes, step_bytes, steps_bytes}
 use Rattle.proof_rules.specs.Judging.{step_of, taken, walk, is_steps, witness_vetting}
-use Rattle.proof_rules.specs.Rules.{Bars, phases, row_phases}
+use Rattle.proof_rules.specs.Rules.{Bars, phases}
 use Rattle.proof_rules.proofs.Codec.{delay_read, step_written}
 use Rattle.proof_rules.proofs.Sound.{phases_of}
 

@@ -1,4 +1,6 @@
 // What an offer shows, or why it was refused, for people.
+#![tactic(auto)]
+
 pub mod offers;
 mod rows;
 mod steps;

@@ -1,5 +1,5 @@
 -- The cases hold: every answer computes.
-use Rattle.std.proofs.Common.{◌≡◌, ℕ, ◌<◌, true, ltb, List, [], ◌∷◌, Ok, Err, refl}
+use Rattle.std.proofs.Common.{◌≡◌, ℕ, true, ltb, List, [], ◌∷◌, Ok, Err, refl}
 use Rattle.std.specs.List.{AllByRecursion}
 use Rattle.std.proofs.lemmas.Bool.{ltb-true, and_parts}
 use Rattle.fddevs.specs.declared.refusal.Refusal.TheVariants.{RowBarred, RowLeaves, StartAbsent, StepNotAllowed, EndNotBarred}

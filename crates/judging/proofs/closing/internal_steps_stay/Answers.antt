@@ -1,4 +1,4 @@
-use Rattle.std.proofs.Common.{length, take, sym, ◌∙◌, arith}
+use Rattle.std.proofs.Common.{length, take, sym, arith}
 use Rattle.fddevs.specs.declared.scheme.Move.TheVariants.{Internal}
 use Rattle.fddevs.specs.Scheme.{scheme}
 use Rattle.fddevs.proofs.Vetting.{below_true, below_false}

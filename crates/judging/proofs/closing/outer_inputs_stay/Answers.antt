@@ -1,4 +1,4 @@
-use Rattle.std.proofs.Common.{take, sym, ◌∙◌, arith}
+use Rattle.std.proofs.Common.{take, sym, arith}
 use Rattle.fddevs.specs.declared.scheme.Move.TheVariants.{Outer}
 use Rattle.fddevs.specs.Scheme.{scheme}
 use Rattle.fddevs.proofs.Vetting.{below_true, below_false}

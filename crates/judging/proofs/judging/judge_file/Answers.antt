@@ -1,4 +1,4 @@
-use Rattle.std.proofs.Common.{◌≡◌, ◌≤◌, length, sym, ◌∙◌, rules}
+use Rattle.std.proofs.Common.{◌≤◌, length, sym, ◌∙◌, rules}
 use Rattle.bars.specs.Meaning.{all_conditions}
 use Rattle.wiring.specs.Meaning.{wiring_of}
 use Rattle.judging.proofs.Headed.{headed}

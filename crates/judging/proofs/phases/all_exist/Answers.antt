@@ -1,4 +1,4 @@
-use Rattle.std.proofs.Common.{◌≡◌, ◌<◌, ◌≤◌, Bool, ltb, length, sym, ap, ◌∙◌, arith}
+use Rattle.std.proofs.Common.{◌<◌, ◌≤◌, ltb, length, sym, ap, ◌∙◌, arith}
 use Rattle.fddevs.specs.Machine.{Machine}
 use Rattle.fddevs.specs.Scheme.{scheme}
 use Rattle.stepping.specs.RowBytes.{cells_of}

@@ -1,4 +1,4 @@
-use Rattle.std.proofs.Common.{◌≡◌, ◌+◌, ◌*◌, ◌<◌, length, sym, ap, ◌∙◌, arith, rules}
+use Rattle.std.proofs.Common.{◌≡◌, length, sym, ap, ◌∙◌, arith, rules}
 use Rattle.fddevs.specs.declared.part.Cell.{Cell}
 use Rattle.stepping.specs.RowBytes.{cells_of}
 use Rattle.stepping.specs.Stepping.{nth_cell}

@@ -1,4 +1,4 @@
-use Rattle.std.proofs.Common.{take, sym, ap, ◌∙◌, ap₂}
+use Rattle.std.proofs.Common.{take, ap, ◌∙◌, ap₂}
 use Rattle.fddevs.specs.declared.refusal.Refusal.TheVariants.{StartAbsent}
 use Rattle.fddevs.specs.Vetting.{unless}
 use Rattle.lookup.specs.Shape.{shape_of}

@@ -1,4 +1,4 @@
-use Rattle.std.proofs.Common.{◌≡◌, ◌≤◌, not, ◌||◌, length, take, sym, ap, ◌∙◌, arith}
+use Rattle.std.proofs.Common.{◌≤◌, not, ◌||◌, length, take, sym, ap, ◌∙◌, arith}
 use Rattle.fddevs.specs.Rows.{row_after}
 use Rattle.fddevs.specs.Scheme.{scheme}
 use Rattle.stepping.specs.RowBytes.{cells_of}
