@@ -6,7 +6,7 @@ use Rattle.fddevs.specs.Machine.{Family, WithinLimits, PartWithin, idle_family}
 use Rattle.bank.specs.OrIdle.{or_idle}
 use Rattle.bank.specs.Pair.{joined, few, pair_family}
 
-idle_within : WithinLimits idle_family
+pub idle_within : WithinLimits idle_family
 idle_within = search rules
 
 pub or_idle_within : {B : Type 0} (family : B → Family) → ((b : B) → WithinLimits (family b)) →

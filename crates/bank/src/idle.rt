@@ -1,5 +1,5 @@
 ghost use Rattle.fddevs.specs.Machine.{idle_family};
-ghost use Rattle.std.proofs.Common.{rules};
+ghost use Rattle.bank.specs.Limits.{idle_within};
 
 use crate::interface::Bank;
 use fddevs::part::{Counts, External, Output, Span};
@@ -11,7 +11,7 @@ pub struct Idle;
 impl Bank for Idle {
     ghost family = { λ _. idle_family };
 
-    ghost limits = { Prim.search rules };
+    ghost limits = { λ _. idle_within };
 
     fn part_count(&self) -> u8 {
         1
