@@ -1,7 +1,7 @@
 ghost use Rattle.fddevs.specs.declared.part.Span.TheVariants.{Unlimited};
 ghost use Rattle.fddevs.specs.declared.part.Output.TheVariants.{Silent};
 ghost use Rattle.fddevs.specs.declared.part.Mark.TheVariants.{Keep};
-ghost use Rattle.std.proofs.Common.{rules};
+ghost use Rattle.std.proofs.Common.{lit<, lit≤};
 
 use crate::reading::read;
 use crate::wires::Wiring;
@@ -17,7 +17,15 @@ struct Gate;
 impl Bank for Gate {
     ghost family = { λ _. record { count = 1; part = λ _. record { counts = record { phases = 1; inputs = 2; outputs = 1 }; start = 0; lifespan = λ _. Unlimited; next = λ _. 0; output = λ _. Silent; external = λ _ _. record { next = 0; mark = Keep } } } };
 
-    ghost limits = { Prim.search rules };
+    ghost limits = { λ _. record {
+      some = lit≤ tt;
+      few = lit≤ tt;
+      part = λ _ _. record {
+        counts = record { some_phase = lit≤ tt; few_phases = lit≤ tt; few_inputs = lit≤ tt; few_outputs = lit≤ tt };
+        start_exists = lit< tt;
+        phase = λ _ _. record { short = tt; next_exists = lit< tt; output_exists = tt; external_exists = λ _ _. lit< tt };
+      };
+    } };
 
     fn part_count(&self) -> u8 {
         1
