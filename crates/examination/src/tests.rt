@@ -19,12 +19,14 @@ impl Bank for Dials {
     ghost family = { λ _. record { count = 2; part = λ _. record { counts = record { phases = 16; inputs = 1; outputs = 0 }; start = 0; lifespan = λ _. Unlimited; next = λ _. 0; output = λ _. Silent; external = λ _ _. record { next = 0; mark = Keep } } } };
 
     ghost limits = { λ _. record {
-      some = lit≤ tt; few = lit≤ tt;
+      some = lit≤ tt;
+      few = lit≤ tt;
       part = λ _ _. record {
         counts = record { some_phase = lit≤ tt; few_phases = lit≤ tt; few_inputs = lit≤ tt; few_outputs = lit≤ tt };
         start_exists = lit< tt;
         phase = λ _ _. record { short = tt; next_exists = lit< tt; output_exists = tt; external_exists = λ _ _. lit< tt };
-      } } };
+      };
+    } };
 
     fn part_count(&self) -> u8 {
         2
