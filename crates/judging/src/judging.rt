@@ -1,5 +1,5 @@
 // A proof file judged by the wiring and the bars that stand.
-ghost use Rattle.std.specs.Prelude.{◌≡◌, length};
+ghost use Rattle.std.specs.Prelude.{◌≡◌, ◌==◌, length};
 ghost use Rattle.fddevs.specs.Scheme.{scheme};
 ghost use Rattle.bars.specs.Meaning.{all_conditions};
 ghost use Rattle.wiring.specs.Meaning.{wiring_of};
@@ -72,6 +72,13 @@ fn judge_body<B: Bank>(
     Err(Refusal::Kind(Layer::Proof))
 }
 
+// Whether a file is of the version that is read.
+fn is_version_one(version: u8) -> bool
+    ensures { result ≡ (version == 1) }
+{
+    version == 1
+}
+
 // Judges a proof file: what it is, or the refusal with the smallest number that holds.
 fn judge_file<B: Bank>(
     bank: &B,
@@ -88,7 +95,7 @@ fn judge_file<B: Bank>(
     if length != body.len() {
         return Err(Refusal::NotWhole(Layer::Proof));
     }
-    if *version != 1 {
+    if !is_version_one(*version) {
         return Err(Refusal::Version(Layer::Proof));
     }
     judge_body(bank, wiring, bars, *kind, body)

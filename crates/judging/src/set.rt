@@ -69,7 +69,8 @@ fn vet_start<B: Bank>(bank: &B, body: &[u8]) -> Result<(), Refusal>
     ensures { result ≡ start_vetting (scheme (B.family bank.now) no_wiring) (B.family bank.now).count body.now }
 {
     let rows = Rows::new(bank.part_count(), body);
-    if !is_among(bank, &rows, &start(bank), &mut 0) {
+    let first = start(bank);
+    if !is_among(bank, &rows, &first, &mut 0) {
         return Err(Refusal::StartAbsent);
     }
     Ok(())
@@ -81,11 +82,11 @@ fn vet_steps<B: Bank>(bank: &B, wiring: &Wiring, body: &[u8]) -> Result<(), Refu
     ensures { result ≡ steps_vetting (scheme (B.family bank.now) (wiring_of wiring.now)) (B.family bank.now).count body.now }
 {
     let rows = Rows::new(bank.part_count(), body);
-    let mut row = NO_ROW;
+    let mut from = NO_ROW;
     let mut hints = Hints::new();
     for k in 0..rows.count() {
-        rows.load(k, &mut row);
-        if !all_stay(bank, wiring, &rows, &row, &mut hints) {
+        rows.load(k, &mut from);
+        if !all_stay(bank, wiring, &rows, &from, &mut hints) {
             return Err(Refusal::RowLeaves(k));
         }
     }

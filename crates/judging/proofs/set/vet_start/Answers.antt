@@ -22,7 +22,7 @@ returns-then-not-is_among g c =
     let body = c.args.body.now in
     let e = c.new-rows.ensures ∙ ap (λ n. shape_of n body) c.part_count.ensures in
     let same = same_body F.count (some_of F (g.met.B.Bank.limits c.args.bank.now)) c.new-rows.result body e in
-    let row = ap (take F.count) c.start.ensures ∙ take_start F no_wiring in
+    let row = ap (take F.count) c.start-first.ensures ∙ take_start F no_wiring in
     ap (λ b. unless b StartAbsent) (c.if-not-is_among.ensures ∙ ap₂ (λ b r. among (rows_in F.count b) r) same row)
 
 pub returns : goal.returns
@@ -31,5 +31,5 @@ returns g c =
     let body = c.args.body.now in
     let e = c.new-rows.ensures ∙ ap (λ n. shape_of n body) c.part_count.ensures in
     let same = same_body F.count (some_of F (g.met.B.Bank.limits c.args.bank.now)) c.new-rows.result body e in
-    let row = ap (take F.count) c.start.ensures ∙ take_start F no_wiring in
+    let row = ap (take F.count) c.start-first.ensures ∙ take_start F no_wiring in
     ap (λ b. unless b StartAbsent) (c.if-not-is_among.ensures ∙ ap₂ (λ b r. among (rows_in F.count b) r) same row)

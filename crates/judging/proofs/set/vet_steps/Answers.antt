@@ -25,7 +25,7 @@ returns-then-not-all_stay g c =
     let rows = c.new-rows.result in
     let e = c.new-rows.ensures ∙ ap (λ n. shape_of n body) c.part_count.ensures in
     let k = c.loop-k.k in
-    let row = loaded_row F.count some body rows e k c.loop-k.row.bytes c.load.new.row.bytes
+    let row = loaded_row F.count some body rows e k c.loop-k.from.bytes c.load.new.row.bytes
     (omega (arith, c.count-k-end.ensures)) c.load.ensures in
     let test = ap₂ (λ b r. all_stay S (rows_in F.count b) r) (sym (same_body F.count some rows body e)) (sym row)
     ∙ sym c.if-not-all_stay.ensures in
@@ -41,7 +41,7 @@ loop-k-preserved g c =
     let rows = c.new-rows.result in
     let e = c.new-rows.ensures ∙ ap (λ n. shape_of n body) c.part_count.ensures in
     let k = c.loop-k.k in
-    let row = loaded_row F.count some body rows e k c.loop-k.row.bytes c.load.new.row.bytes
+    let row = loaded_row F.count some body rows e k c.loop-k.from.bytes c.load.new.row.bytes
     (omega (arith, c.count-k-end.ensures)) c.load.ensures in
     let test = ap₂ (λ b r. all_stay S (rows_in F.count b) r) (sym (same_body F.count some rows body e)) (sym row)
     ∙ sym c.if-not-all_stay.ensures in
