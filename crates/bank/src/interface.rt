@@ -1,5 +1,5 @@
 ghost use Rattle.std.specs.Prelude.{◌≡◌};
-ghost use Rattle.fddevs.specs.Machine.{Family, WithinLimits, counts_at, start_at, lifespan_at, next_at, output_at, external_at};
+ghost use Rattle.fddevs.specs.Machine.{Family, WithinLimits, counts_at, start_at, lifespan_at, next_at, output_at, external_at, has_phase};
 
 use fddevs::part::{Counts, External, Output, Span};
 
@@ -37,4 +37,12 @@ pub trait Bank: Drop {
         ensures { result ≡ external_at (family self.now) part phase input };
 
     ghost limits: { (b : Self) → WithinLimits (family b) };
+
+    // Whether a part has a phase.
+    final fn has_phase(&self, part: u8, phase: u8) -> bool
+        ensures { result ≡ has_phase (family self.now) part phase }
+    {
+        self.counts(part)
+            .is_some_and(|counts| phase < counts.phases)
+    }
 }

@@ -26,7 +26,7 @@ pub fn vet<A: Bank, B: Bank>(first: &A, second: &B) -> Result<(), Refusal>
     }
 }
 
-// Which of the two banks answers for a part, and the part's number there.
+// Which of the two banks answers for a part, and the part's number there. It is no `Result`: neither is an error.
 #[derive(Clone, Copy)]
 pub(crate) enum Half {
     First(u8),

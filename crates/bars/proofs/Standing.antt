@@ -1,6 +1,6 @@
 -- The bars that stand, one after another.
-use Rattle.std.proofs.Common.{◌≡◌, ℕ, ◌<◌, ◌≤◌, List, length, get_or, Some, None, Decides, sym, refl, ap, ◌∙◌, arith}
-use Rattle.std.specs.List.{ContainsAt as Has, slice_get}
+use Rattle.std.proofs.Common.{◌≡◌, ℕ, ◌<◌, ◌≤◌, ◌||◌, List, [], ◌∷◌, length, get_or, Some, None, Decides, sym, refl, ap, ◌∙◌, arith}
+use Rattle.std.specs.List.{ContainsAt as Has, list_any, slice_get}
 use Rattle.std.proofs.lemmas.List.{length-map, length-take-le, get_or-map}
 use Rattle.std.proofs.lemmas.Option.{slice_get-get_or, slice_get_past}
 use Rattle.std.proofs.lemmas.Bool.Decides.{Decides-by_or}
@@ -14,6 +14,12 @@ use Rattle.bars.proofs.Same.{same_decides}
 pub stands_decides : (bars : List (List Condition)) (cs : List Condition) → Decides (stands bars cs) (Has bars cs)
 stands_decides bars cs =
     Decides-by_or (λ b. same_bar b cs) (λ b. b ≡ cs) (λ bs. stands bs cs) (λ b. same_decides b cs) refl (λ _ _. refl) bars
+
+-- a bar with these conditions is any of the bars in memory
+pub any_stands : (bars : List Bar) (cs : List Condition) →
+    list_any (λ b. same_bar (conditions_of b) cs) bars ≡ stands (all_conditions bars) cs
+any_stands [] cs = refl
+any_stands (b ∷ bars) cs = ap (λ z. same_bar (conditions_of b) cs || z) (any_stands bars cs)
 
 pub bars_count : (n : ℕ) (bars : Bars) → n ≤ 16 → length (bars_of n bars) ≡ n
 bars_count n bars h =

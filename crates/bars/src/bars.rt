@@ -4,7 +4,8 @@ use crate::bar::Bar;
 
 pub mod table;
 
-// Room for sixteen bars. How many of them stand is kept beside it.
+// Room for sixteen bars. How many of them stand is kept beside it, where the verdict is: by a rule of the project, bars
+// lie in plain tables.
 #[derive(Drop)]
 pub struct Bars {
     table: [Bar; 16],

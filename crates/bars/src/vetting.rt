@@ -1,6 +1,5 @@
 // Whether a bar is one to take.
 ghost use Rattle.std.specs.Prelude.{◌≡◌, ◌<◌, ◌↔◌, length, Ok, nat_lt};
-ghost use Rattle.fddevs.specs.Machine.{has_phase};
 ghost use Rattle.fddevs.specs.Vetting.{all_below, unless, Tells};
 ghost use Rattle.fddevs.specs.declared.refusal.Refusal.TheVariants.{BarsFull};
 ghost use Rattle.bars.specs.Bars.{stands};
@@ -20,31 +19,18 @@ fn is_in_order(conditions: &[Condition], k: usize) -> bool
     k == 0 || conditions[k - 1].part < conditions[k].part
 }
 
-fn exists<B: Bank>(bank: &B, condition: Condition) -> bool
-    ensures { result ≡ has_phase (B.Bank.family bank.now) condition.part condition.phase }
-{
-    match bank.counts(condition.part) {
-        Some(counts) => condition.phase < counts.phases,
-        None => false,
-    }
-}
-
 fn is_fit<B: Bank>(bank: &B, conditions: &[Condition], k: usize) -> bool
     requires { k < length conditions.now }
     ensures { result ≡ fits (B.Bank.family bank.now) conditions.now k }
 {
-    is_in_order(conditions, k) && exists(bank, conditions[k])
+    let condition = conditions[k];
+    is_in_order(conditions, k) && bank.has_phase(condition.part, condition.phase)
 }
 
 fn are_fit<B: Bank>(bank: &B, conditions: &[Condition]) -> bool
     ensures { result ≡ all_below (fits (B.Bank.family bank.now) conditions.now) (length conditions.now) }
 {
-    for k in 0..conditions.len() {
-        if !is_fit(bank, conditions, k) {
-            return false;
-        }
-    }
-    true
+    (0..conditions.len()).all(|k| is_fit(bank, conditions, k))
 }
 
 fn is_well_formed<B: Bank>(bank: &B, conditions: &[Condition]) -> bool
@@ -56,27 +42,17 @@ fn is_well_formed<B: Bank>(bank: &B, conditions: &[Condition]) -> bool
 fn is_standing(standing: &[Bar], conditions: &[Condition]) -> bool
     ensures { result ≡ stands (all_conditions standing.now) conditions.now }
 {
-    for bar in standing {
-        if bar.has_conditions(conditions) {
-            return true;
-        }
-    }
-    false
-}
-
-fn has_room(count: usize) -> bool
-    ensures { result ≡ nat_lt count 16 }
-{
-    count < 16
+    standing.iter().any(|bar| bar.has_conditions(conditions))
 }
 
 fn check_room(standing: &[Bar]) -> Result<(), Refusal>
     ensures { result ≡ unless (nat_lt (length (all_conditions standing.now)) 16) BarsFull }
 {
-    if !has_room(standing.len()) {
-        return Err(Refusal::BarsFull);
+    if standing.len() < 16 {
+        Ok(())
+    } else {
+        Err(Refusal::BarsFull)
     }
-    Ok(())
 }
 
 // The refusals in the order of their numbers.

@@ -1,6 +1,10 @@
-// A wire (coupling): from an output of the source part to an input of the target part. Where the source is 255,
-// `output` is the number of an outer input; where the target is 255, `input` is the number of an outer output.
-#[derive(Clone, Copy, PartialEq, Eq, Debug)]
+// What a wire has for the number of a part where it comes from outside or leads there.
+pub const OUTSIDE: u8 = 255;
+
+// A wire (coupling): from an output of the source part to an input of the target part. Where the source is outside,
+// `output` is the number of an outer input; where the target is outside, `input` is the number of an outer output.
+// Wires are ordered by their four bytes.
+#[derive(Clone, Copy, PartialEq, Eq, PartialOrd, Ord, Debug)]
 pub struct Wire {
     pub source: u8,
     pub output: u8,

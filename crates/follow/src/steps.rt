@@ -31,16 +31,6 @@ fn is_spent(state: PartState) -> bool
     }
 }
 
-// Whether this many elapsed ticks are within the span.
-fn is_within(span: Span, elapsed: u128) -> bool
-    ensures { result ≡ within span elapsed }
-{
-    match span {
-        Span::Unlimited => true,
-        Span::Ticks(ticks) => elapsed <= u128::from(ticks),
-    }
-}
-
 // A phase from the beginning of a lifespan.
 fn fresh(phase: u8, lifespan: Span) -> PartState
     ensures { result ≡ record { phase = phase; lifespan = lifespan; elapsed = 0 } }
@@ -103,15 +93,10 @@ fn take_internal<B: Bank>(bank: &B, part: u8, state: PartState) -> Option<PartSt
 fn take_delay(state: PartState, ticks: u32) -> Result<PartState, Stuck>
     ensures { result ≡ after_delay_in state ticks }
 {
-    if !is_within(
-        state.lifespan,
-        u128::from(state.elapsed) + u128::from(ticks),
-    ) {
-        return Err(Stuck::NotAllowed);
-    }
     match state.elapsed.checked_add(u64::from(ticks)) {
-        Some(elapsed) => Ok(PartState { elapsed, ..state }),
-        None => Err(Stuck::TooLong),
+        Some(elapsed) if state.lifespan.lasts(elapsed) => Ok(PartState { elapsed, ..state }),
+        None if state.lifespan == Span::Unlimited => Err(Stuck::TooLong),
+        _ => Err(Stuck::NotAllowed),
     }
 }
 

@@ -1,14 +1,10 @@
 -- What the bytes of a scheme file say. A byte past the end reads as 0. Assumes nothing.
-use Rattle.std.specs.Prelude.{ℕ, zero, suc, ◌+◌, ◌*◌, cond, List, map, take, drop, ◌==◌, nat_lt, slice_index}
+use Rattle.std.specs.Prelude.{ℕ, zero, suc, ◌+◌, ◌*◌, cond, List, map, take, drop, nat_lt, slice_index}
 use Rattle.std.specs.List.{range_with_len}
-use Rattle.fddevs.specs.Bytes.{two_at}
+use Rattle.fddevs.specs.Bytes.{two_at, output_of, mark_of}
 use Rattle.fddevs.specs.Machine.{Machine, Family}
 use Rattle.fddevs.specs.declared.part.Counts.{Counts}
 use Rattle.fddevs.specs.declared.part.External.{External}
-use Rattle.fddevs.specs.declared.part.Mark.{Mark}
-use Rattle.fddevs.specs.declared.part.Mark.TheVariants.{Keep, Restart}
-use Rattle.fddevs.specs.declared.part.Output.{Output}
-use Rattle.fddevs.specs.declared.part.Output.TheVariants.{Silent, Sends}
 use Rattle.fddevs.specs.declared.part.Span.{Span}
 use Rattle.fddevs.specs.declared.part.Span.TheVariants.{Ticks, Unlimited}
 use Rattle.scheme_file.specs.declared.section.Phase.{Phase}
@@ -17,14 +13,6 @@ use Rattle.scheme_file.specs.declared.section.Section.{Section}
 -- FF FF is unlimited
 abbrev pub lifespan_of : ℕ → Span
 lifespan_of n = cond (nat_lt n 65535) (Ticks n) Unlimited
-
--- FF is silence
-abbrev pub output_of : ℕ → Output
-output_of b = cond (b == 255) Silent (Sends b)
-
--- 00 is keep
-abbrev pub mark_of : ℕ → Mark
-mark_of b = cond (b == 0) Keep Restart
 
 -- a phase record: the lifespan in two bytes, the next phase, the output, then per input the next phase and the mark
 abbrev pub phase_of : List ℕ → Phase

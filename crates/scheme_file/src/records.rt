@@ -54,19 +54,10 @@ pub(crate) fn phase(bytes: &[u8]) -> Phase
     requires { 4 ≤ length bytes.now }
     ensures { result ≡ phase_of bytes.now }
 {
-    let lifespan = match u16::from_be_bytes([bytes[0], bytes[1]]) {
-        u16::MAX => Span::Unlimited,
-        ticks => Span::Ticks(ticks),
-    };
-    let next = bytes[2];
-    let output = match bytes[3] {
-        u8::MAX => Output::Silent,
-        output => Output::Sends(output),
-    };
     Phase {
-        lifespan,
-        next,
-        output,
+        lifespan: Span::from(two(bytes, 0)),
+        next: bytes[2],
+        output: Output::from(bytes[3]),
     }
 }
 
@@ -76,12 +67,8 @@ pub(crate) fn external(bytes: &[u8], input: u8) -> External
     ensures { result ≡ external_of bytes.now input }
 {
     let at = 4 + 2 * usize::from(input);
-    let mark = match bytes[at + 1] {
-        0 => Mark::Keep,
-        _ => Mark::Restart,
-    };
     External {
         next: bytes[at],
-        mark,
+        mark: Mark::from(bytes[at + 1]),
     }
 }

@@ -16,7 +16,7 @@ pub struct Phase {
     pub output: Output,
 }
 
-// What is tested of each section.
+// What is tested of each section. They are no closures: the definitions name them too, with what each rests on.
 #[derive(Clone, Copy)]
 pub enum Test {
     Length,

@@ -21,12 +21,7 @@ impl Scheme {
     fn section(&self, part: u8) -> Option<Section>
         ensures { result ≡ section_in self.now.file.items part }
     {
-        let i = usize::from(part);
-        if i < self.sections.len() {
-            Some(self.sections[i])
-        } else {
-            None
-        }
+        self.sections.get(usize::from(part)).copied()
     }
 
     fn phase(&self, part: u8, number: u8) -> Option<Phase>

@@ -12,6 +12,8 @@ use crate::section::{Phase, Section, Test};
 use fddevs::part::Output;
 use fddevs::refusal::{Layer, Refusal};
 
+// Sections differ in length, so here and below a place in the file goes from one to the next: an iterator would need
+// ghost members of its own to say the same.
 fn is_whole(file: &[u8]) -> bool
     ensures { result ≡ whole file.now }
 {
@@ -29,29 +31,6 @@ fn is_whole(file: &[u8]) -> bool
         }
     }
     at == file.len()
-}
-
-fn check_version(file: &[u8]) -> Result<(), Refusal>
-    requires { whole file.now ≡ true }
-    ensures { result ≡ unless (version_fits file.now) (Version Scheme) }
-{
-    if file[0] == 1 {
-        Ok(())
-    } else {
-        Err(Refusal::Version(Layer::Scheme))
-    }
-}
-
-fn check_count(file: &[u8]) -> Result<(), Refusal>
-    requires { whole file.now ≡ true }
-    ensures { result ≡ unless (count_fits file.now) PartCount }
-{
-    let count = file[1];
-    if 1 <= count && count <= 16 {
-        Ok(())
-    } else {
-        Err(Refusal::PartCount)
-    }
 }
 
 fn is_right_length(file: &[u8], at: usize) -> bool
@@ -96,30 +75,15 @@ impl Section {
         requires { length bytes.now ≡ record_size self.counts }
         ensures { result ≡ record_exists self bytes.now }
     {
-        if !self.has_phase(phase(bytes)) {
-            return false;
-        }
-        for i in 0..self.counts.inputs {
-            if !self.has_external(bytes, i) {
-                return false;
-            }
-        }
-        true
+        self.has_phase(phase(bytes)) && (0..self.counts.inputs).all(|i| self.has_external(bytes, i))
     }
 
     fn exists_in(self, file: &[u8]) -> bool
         requires { record_at self self.counts.phases ≤ length file.now }
         ensures { result ≡ section_exists file.now self }
     {
-        if self.start >= self.counts.phases {
-            return false;
-        }
-        for s in 0..self.counts.phases {
-            if !self.has_record(record_bytes(file, self, s)) {
-                return false;
-            }
-        }
-        true
+        self.start < self.counts.phases
+            && (0..self.counts.phases).all(|s| self.has_record(record_bytes(file, self, s)))
     }
 }
 
@@ -169,9 +133,13 @@ fn check_all(file: &[u8]) -> Result<(), Refusal>
     if !is_whole(file) {
         return Err(Refusal::NotWhole(Layer::Scheme));
     }
-    check_version(file)?;
+    if file[0] != 1 {
+        return Err(Refusal::Version(Layer::Scheme));
+    }
     check_sections(file, Test::Length)?;
-    check_count(file)?;
+    if file[1] < 1 || file[1] > 16 {
+        return Err(Refusal::PartCount);
+    }
     check_sections(file, Test::Limits)?;
     check_sections(file, Test::Names)
 }

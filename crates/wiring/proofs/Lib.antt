@@ -1,6 +1,7 @@
 pub mod Orders
 pub mod Apart
 pub mod Kept
+pub mod Filled
 pub mod Laid
 pub mod Accepted
 pub mod Refused

@@ -1,5 +1,9 @@
 -- The order of wires.
-use Rattle.std.proofs.Common.{◌≡◌, ℕ, zero, suc, ◌+◌, ◌-◌, ◌<◌, ◌≤◌, Bool, true, false, cond, eqb, List, [], ◌∷◌, ◌++◌, length, take, drop, Some, filter, sym, refl, ap, ◌∙◌, ⊎_elim, sub-one, arith}
+use Rattle.std.proofs.Common.{◌≡◌, ℕ, zero, suc, ◌+◌, ◌-◌, ◌<◌, ◌≤◌, Bool, true, false, cond, eqb, List, [], ◌∷◌, ◌++◌, length, take, drop, Some, None, Option, Bor, filter, sym, refl, ap, ◌∙◌, subst, ⊎_elim, sub-one, arith}
+use Rattle.std.specs.List.{find}
+use Rattle.std.specs.List.Sorted.{IsPartitionPoint, IsPartitionedBy}
+use Rattle.std.specs.Option.{option_map}
+use Rattle.std.proofs.lemmas.List.{get_or_default}
 use Rattle.std.proofs.lemmas.List.{take-append-drop, get_or-take, get_or-drop, length-take-le, length-drop, append-nil}
 use Rattle.std.proofs.lemmas.List.Elements.{filter-append}
 use Rattle.std.proofs.lemmas.Bool.{cases_lt, cases_Bool, or_cases, and_parts, both_ways, eqb-true}
@@ -30,6 +34,33 @@ module _ (ws : List Wire) (up : ascends ws ≡ true) where
   pub below_up : (s o k j : ℕ) → k ≤ j → j < length ws → comes_below s o (nth ws k) ≡ false → comes_below s o (nth ws j) ≡ false
   below_up s o k j h l e =
       ⊎_elim (λ y. absurd (both_ways _ e (below_down s o j k h l y))) (λ y. y) (cases_Bool (comes_below s o (nth ws j)))
+
+  pub below_parts : (s o : ℕ) → IsPartitionedBy (comes_below s o) ws
+  below_parts s o i j d h l e =
+      let m : i < length ws = omega arith in
+      subst (λ w. comes_below s o w ≡ true) (get_or_default ws i no_wire d m)
+      (below_down s o j i h l (subst (λ w. comes_below s o w ≡ true) (get_or_default ws j d no_wire l) e))
+
+-- a partition point splits the wires
+pub split_there : (ws : List Wire) (s o i : ℕ) → i ≤ length ws →
+    IsPartitionPoint (λ w. comes_below s o w ≡ true) (λ w. comes_below s o w ≡ false) ws i → Splits ws s o i
+split_there ws s o i b h = record {
+  bound = b;
+  front = λ k l. h.0 k no_wire (omega arith) l;
+  back = λ k l m. h.1 k no_wire l m;
+}
+
+-- the first of the wires that leads to the target
+pub first_to : (t : ℕ) (ws : List Wire) → input_to ws t ≡ option_map (λ w. w.input) (find (λ w. eqb w.target t) ws)
+first_to t [] = refl
+first_to t (w ∷ ws) =
+    elim (eqb w.target t) as (λ b. cond b (Some w.input) (input_to ws t) ≡ option_map (λ w. w.input) (cond b (Some w) (find (λ w. eqb w.target t) ws)))
+    [ true ↦ refl | false ↦ first_to t ws ]
+
+pub found_to : (t : ℕ) (ws : List Wire) (r o : Option (Bor Wire)) → r ≡ o →
+    option_map (λ x. x.now) r ≡ find (λ w. eqb w.target t) ws → option_map (λ x. x.now.input) o ≡ input_to ws t
+found_to t ws r None e h = sym (first_to t ws ∙ ap (option_map (λ w. w.input)) (sym h ∙ ap (option_map (λ x. x.now)) e))
+found_to t ws r (Some x) e h = sym (first_to t ws ∙ ap (option_map (λ w. w.input)) (sym h ∙ ap (option_map (λ x. x.now)) e))
 
 -- a filter that keeps nothing, or all
 module _ (p : Wire → Bool) where

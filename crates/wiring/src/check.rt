@@ -2,14 +2,14 @@
 ghost use Rattle.std.specs.Prelude.{◌≡◌, ◌<◌, ◌≤◌, true, length};
 ghost use Rattle.fddevs.specs.Vetting.{seek};
 ghost use Rattle.wiring.specs.File.{wire_count, is_whole, is_within};
-ghost use Rattle.wiring.specs.Wires.{bytes, before, same_start, in_order, is_apart, ascends, nth};
+ghost use Rattle.wiring.specs.Wires.{same_start, in_order, is_apart, ascends, nth};
 ghost use Rattle.wiring.specs.Reading.{source_exists, target_exists, has_ends, keeps, breach, kept, head_vetting, wires_vetting, draft, Ready};
 
 use crate::rule::Rule;
 use crate::wires::OuterCounts;
 use bank::interface::Bank;
 use fddevs::refusal::{Layer, Refusal};
-use fddevs::scheme::Wire;
+use fddevs::scheme::{OUTSIDE, Wire};
 
 fn is_whole(file: &[u8]) -> bool
     ensures { result ≡ is_whole file.now }
@@ -50,91 +50,33 @@ pub(crate) fn check_head(file: &[u8]) -> Result<(), Refusal>
     Ok(())
 }
 
-fn is_before(a: Wire, b: Wire) -> bool
-    ensures { result ≡ before (bytes a) (bytes b) }
-{
-    u32::from_be_bytes([a.source, a.output, a.target, a.input])
-        < u32::from_be_bytes([b.source, b.output, b.target, b.input])
-}
-
 fn is_same_start(a: Wire, b: Wire) -> bool
     ensures { result ≡ same_start a b }
 {
-    a.source == b.source && a.output == b.output && a.target == b.target
+    (a.source, a.output, a.target) == (b.source, b.output, b.target)
 }
 
-fn is_in_order(wires: &[Wire], k: usize) -> bool
-    requires { k < length wires.now }
-    ensures { result ≡ in_order wires.now k }
-{
-    k == 0 || is_before(wires[k - 1], wires[k])
-}
-
-// In ascending wires, those with one start stand side by side.
-fn is_apart(wires: &[Wire], k: usize) -> bool
-    requires within { k < length wires.now }
-    requires order { ascends wires.now ≡ true }
-    ensures { result ≡ is_apart wires.now k }
-{
-    k == 0 || !is_same_start(wires[k - 1], wires[k])
-}
-
+// The two ends differ in every name: one function of both would need closures for the counts that it asks.
 fn source_exists<B: Bank>(bank: &B, outer_inputs: u8, wire: Wire) -> bool
     ensures { result ≡ source_exists (B.Bank.family bank.now) outer_inputs wire }
 {
-    if wire.source == 255 {
-        return wire.output < outer_inputs;
-    }
-    match bank.counts(wire.source) {
-        Some(counts) => wire.output < counts.outputs,
-        None => false,
+    match wire.source {
+        OUTSIDE => wire.output < outer_inputs,
+        part => bank
+            .counts(part)
+            .is_some_and(|counts| wire.output < counts.outputs),
     }
 }
 
 fn target_exists<B: Bank>(bank: &B, outer_outputs: u8, wire: Wire) -> bool
     ensures { result ≡ target_exists (B.Bank.family bank.now) outer_outputs wire }
 {
-    if wire.target == 255 {
-        return wire.input < outer_outputs;
+    match wire.target {
+        OUTSIDE => wire.input < outer_outputs,
+        part => bank
+            .counts(part)
+            .is_some_and(|counts| wire.input < counts.inputs),
     }
-    match bank.counts(wire.target) {
-        Some(counts) => wire.input < counts.inputs,
-        None => false,
-    }
-}
-
-fn has_ends<B: Bank>(bank: &B, outer: OuterCounts, wires: &[Wire], k: usize) -> bool
-    requires { k < length wires.now }
-    ensures { result ≡ has_ends (B.Bank.family bank.now) (draft outer wires.now) (nth wires.now k) }
-{
-    let wire = wires[k];
-    wire.source != wire.target
-        && source_exists(bank, outer.inputs, wire)
-        && target_exists(bank, outer.outputs, wire)
-}
-
-fn passes<B: Bank>(bank: &B, outer: OuterCounts, wires: &[Wire], k: usize, rule: Rule) -> bool
-    requires within { k < length wires.now }
-    requires ready { Ready rule wires.now }
-    ensures { result ≡ keeps rule (B.Bank.family bank.now) (draft outer wires.now) k }
-{
-    match rule {
-        Rule::Order => is_in_order(wires, k),
-        Rule::Apart => is_apart(wires, k),
-        Rule::Names => has_ends(bank, outer, wires, k),
-    }
-}
-
-fn first_breach<B: Bank>(bank: &B, outer: OuterCounts, wires: &[Wire], rule: Rule) -> Option<usize>
-    requires { Ready rule wires.now }
-    ensures { result ≡ seek (keeps rule (B.Bank.family bank.now) (draft outer wires.now)) 0 (length wires.now) }
-{
-    for k in 0..wires.len() {
-        if !passes(bank, outer, wires, k, rule) {
-            return Some(k);
-        }
-    }
-    None
 }
 
 impl Rule {
@@ -149,30 +91,76 @@ impl Rule {
     }
 }
 
-fn check_rule<B: Bank>(
-    bank: &B,
-    outer: OuterCounts,
-    wires: &[Wire],
-    rule: Rule,
-) -> Result<(), Refusal>
-    requires { Ready rule wires.now }
-    ensures { result ≡ kept rule (B.Bank.family bank.now) (draft outer wires.now) }
-{
-    match first_breach(bank, outer, wires, rule) {
-        None => Ok(()),
-        Some(wire) => Err(rule.refusal(wire)),
-    }
+// The wires of a file that is tested for a bank, and how many outer inputs and outputs it has.
+#[derive(Drop)]
+pub(crate) struct Draft<'a, B> {
+    pub(crate) bank: &'a B,
+    pub(crate) outer: OuterCounts,
+    pub(crate) wires: &'a [Wire],
 }
 
-// The rules in the order of their numbers.
-pub(crate) fn check_wires<B: Bank>(
-    bank: &B,
-    outer: OuterCounts,
-    wires: &[Wire],
-) -> Result<(), Refusal>
-    ensures { result ≡ wires_vetting (B.Bank.family bank.now) (draft outer wires.now) }
-{
-    check_rule(bank, outer, wires, Rule::Order)?;
-    check_rule(bank, outer, wires, Rule::Apart)?;
-    check_rule(bank, outer, wires, Rule::Names)
+impl<B: Bank> Draft<'_, B> {
+    fn is_in_order(&self, k: usize) -> bool
+        requires { k < length self.now.wires.now }
+        ensures { result ≡ in_order self.now.wires.now k }
+    {
+        k == 0 || self.wires[k - 1] < self.wires[k]
+    }
+
+    // In ascending wires, those with one start stand side by side.
+    fn is_apart(&self, k: usize) -> bool
+        requires within { k < length self.now.wires.now }
+        requires order { ascends self.now.wires.now ≡ true }
+        ensures { result ≡ is_apart self.now.wires.now k }
+    {
+        k == 0 || !is_same_start(self.wires[k - 1], self.wires[k])
+    }
+
+    fn has_ends(&self, k: usize) -> bool
+        requires { k < length self.now.wires.now }
+        ensures { result ≡ has_ends (B.Bank.family self.now.bank.now) (draft self.now.outer self.now.wires.now) (nth self.now.wires.now k) }
+    {
+        let wire = self.wires[k];
+        wire.source != wire.target
+            && source_exists(self.bank, self.outer.inputs, wire)
+            && target_exists(self.bank, self.outer.outputs, wire)
+    }
+
+    fn keeps(&self, rule: Rule, k: usize) -> bool
+        requires within { k < length self.now.wires.now }
+        requires ready { Ready rule self.now.wires.now }
+        ensures { result ≡ keeps rule (B.Bank.family self.now.bank.now) (draft self.now.outer self.now.wires.now) k }
+    {
+        match rule {
+            Rule::Order => self.is_in_order(k),
+            Rule::Apart => self.is_apart(k),
+            Rule::Names => self.has_ends(k),
+        }
+    }
+
+    fn first_breach(&self, rule: Rule) -> Option<usize>
+        requires { Ready rule self.now.wires.now }
+        ensures { result ≡ seek (keeps rule (B.Bank.family self.now.bank.now) (draft self.now.outer self.now.wires.now)) 0 (length self.now.wires.now) }
+    {
+        (0..self.wires.len()).find(|k| !self.keeps(rule, *k))
+    }
+
+    fn check_rule(&self, rule: Rule) -> Result<(), Refusal>
+        requires { Ready rule self.now.wires.now }
+        ensures { result ≡ kept rule (B.Bank.family self.now.bank.now) (draft self.now.outer self.now.wires.now) }
+    {
+        match self.first_breach(rule) {
+            None => Ok(()),
+            Some(wire) => Err(rule.refusal(wire)),
+        }
+    }
+
+    // The rules in the order of their numbers.
+    pub(crate) fn check(&self) -> Result<(), Refusal>
+        ensures { result ≡ wires_vetting (B.Bank.family self.now.bank.now) (draft self.now.outer self.now.wires.now) }
+    {
+        self.check_rule(Rule::Order)?;
+        self.check_rule(Rule::Apart)?;
+        self.check_rule(Rule::Names)
+    }
 }

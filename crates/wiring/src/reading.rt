@@ -1,13 +1,14 @@
 // Reading a wiring file.
-ghost use Rattle.std.specs.Prelude.{◌≡◌, ◌+◌, ◌≤◌, length, take};
+ghost use Rattle.std.specs.Prelude.{◌≡◌, ◌+◌, ◌*◌, ◌<◌, ◌≤◌, length, take};
 ghost use Rattle.wiring.specs.File.{wire_at, wire_count, held};
 ghost use Rattle.wiring.specs.Reading.{meant, reading};
 
-use crate::check::{check_head, check_wires, wire_count};
+use crate::check::{Draft, check_head, wire_count};
 use crate::wires::{NO_WIRE, OuterCounts, Wiring};
 use bank::interface::Bank;
 use fddevs::refusal::Refusal;
 use fddevs::scheme::Wire;
+use std::array;
 
 // The wire whose bytes begin at `at`.
 fn wire(file: &[u8], at: usize) -> Wire
@@ -22,16 +23,24 @@ fn wire(file: &[u8], at: usize) -> Wire
     }
 }
 
+// Wire k of the file, or what fills the table behind its wires.
+fn nth_wire(file: &[u8], k: usize) -> Wire
+    requires { 5 ≤ length file.now }
+    ensures { k < wire_count file.now → result ≡ wire_at file.now (5 + 4 * k) }
+{
+    if k < wire_count(file) {
+        wire(file, 5 + 4 * k)
+    } else {
+        NO_WIRE
+    }
+}
+
 fn table(file: &[u8]) -> [Wire; 256]
     requires long { 5 ≤ length file.now }
     requires few { wire_count file.now ≤ 256 }
     ensures { take (wire_count file.now) result ≡ (held file.now).wires }
 {
-    let mut table = [NO_WIRE; 256];
-    for k in 0..wire_count(file) {
-        table[k] = wire(file, 5 + 4 * k);
-    }
-    table
+    array::from_fn(|k| nth_wire(file, k))
 }
 
 // The wiring that a file gives for a bank, or the refusal with the smallest number that holds.
@@ -45,7 +54,12 @@ pub fn read<B: Bank>(bank: &B, file: &[u8]) -> Result<Wiring, Refusal>
     };
     let table = table(file);
     let count = wire_count(file);
-    check_wires(bank, outer, &table[..count])?;
+    let draft = Draft {
+        bank,
+        outer,
+        wires: &table[..count],
+    };
+    draft.check()?;
     Ok(Wiring {
         table,
         count,

@@ -18,7 +18,7 @@ pub(crate) const NO_WIRE: Wire = Wire {
     input: 0,
 };
 
-// The wires, in order, are the first `count` of the table.
+// The wires, in order, are the first `count` of the table: by a rule of the project, wires lie in a plain table.
 #[derive(Drop)]
 pub struct Wiring {
     pub(crate) table: [Wire; 256],

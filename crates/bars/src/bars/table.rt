@@ -5,13 +5,6 @@ use crate::bar::Bar;
 use crate::bars::Bars;
 use crate::condition::Condition;
 
-// How many places of the table a count names.
-fn places(count: usize) -> usize
-    ensures { result ≡ min count 16 }
-{
-    count.min(16)
-}
-
 impl Bars {
     // A table in which no bar stands yet.
     pub fn empty() -> Bars
@@ -26,7 +19,7 @@ impl Bars {
     pub fn standing(&self, count: usize) -> &[Bar]
         ensures { all_conditions result.now ≡ bars_of count self.now }
     {
-        &self.table[0..places(count)]
+        &self.table[..count.min(16)]
     }
 
     fn set(&mut self, count: usize, conditions: &[Condition])

@@ -1,8 +1,0 @@
-use Rattle.std.proofs.Common.{not, ap, ◌∙◌}
-use Rattle.wiring.proofs.Apart.{beside}
-use Rattle.wiring.proofs.check.is_apart.Goals as goal
-
-pub returns-else-k-eq0 : goal.returns-else-k-eq0
-returns-else-k-eq0 c =
-    ap not c.is_same_start.ensures
-    ∙ beside c.args.wires.now c.requires.order c.args.k c.if-k-eq0.false c.requires.within
