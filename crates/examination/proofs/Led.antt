@@ -16,5 +16,5 @@ leads_by family x y e state right =
     λ h led. subst (λ (z : Held). Led (family x.bank) (e ∷ h) z) (sym state) (goes e led right)
 
 pub law_by : {B : Type 0} (family : B → Family) (x : Examination B) → WithinLimits (family x.bank) →
-    HoldsTheLaw family x x.standing.verdict
-law_by family x limits = λ h led. law_of (family x.bank) limits (goes (verdict_call x.standing.verdict) led refl)
+    HoldsTheLaw family x x.state.standing.verdict
+law_by family x limits = λ h led. law_of (family x.bank) limits (goes (verdict_call x.state.standing.verdict) led refl)

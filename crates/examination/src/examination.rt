@@ -1,15 +1,11 @@
-use crate::standing::Standing;
+use crate::state::State;
 use bank::interface::Bank;
-use bars::bars::Bars;
-use wiring::wires::Wiring;
 
 pub mod calls;
 
-// A bank under examination.
+// A bank under examination, and what is held of it.
 #[derive(Drop)]
 pub struct Examination<B: Bank> {
     bank: B,
-    wiring: Wiring,
-    bars: Bars,
-    standing: Standing,
+    state: State,
 }

@@ -3,6 +3,7 @@
 
 pub mod examination;
 mod standing;
+mod state;
 #[cfg(test)]
 mod tests;
 pub mod verdict;

@@ -1,5 +1,5 @@
 -- A record that is found among the rows of a set, and one that is not.
-use Rattle.std.proofs.Common.{◌≡◌, ℕ, zero, suc, ◌*◌, ◌<◌, ◌≤◌, true, false, List, [], ◌∷◌, length, take, Ok, sym, refl, ap, ◌∙◌, subst, ⊎_elim, div-mul-le_self, arith, length-take}
+use Rattle.std.proofs.Common.{◌≡◌, ℕ, zero, suc, ◌*◌, ◌<◌, ◌≤◌, true, false, List, [], ◌∷◌, length, get_or, take, Ok, sym, refl, ap, ◌∙◌, subst, ⊎_elim, div-mul-le_self, arith, length-take}
 use Rattle.std.specs.List.{ContainsAt as Has}
 use Rattle.std.proofs.ByRecursion.{All-take}
 use Rattle.std.proofs.lemmas.Bool.{and_from, le-leb, cond-true, cases_Bool}
@@ -87,6 +87,15 @@ module _ (F : Family) (limits : WithinLimits F) (rows : Rows) (set : IsSet F row
           nowhere k (omega (arith, c))
           (ap (λ m. stretch m body k) w ∙ sym (row_written n body set.bytes k l) ∙ ap row_bytes cells
           ∙ bytes_back n (take (width n) r.bytes) long (All-take _ (width n) r.bytes b) ∙ ap (λ m. take m r.bytes) (sym w))
+
+bytes_of : (xs : List ℕ) → ((k : ℕ) → get_or xs k 0 < 256) → Bytes xs
+bytes_of [] h = tt
+bytes_of (x ∷ xs) h = (h 0, bytes_of xs (λ k. h (suc k)))
+
+-- what is known of rows in which steps are looked up
+pub is_set : (F : Family) (rows : Rows) → shape rows ≡ shape_of F.count rows.body.now →
+    ((k : ℕ) → get_or rows.body.now k 0 < 256) → Rising rows.width rows.body.now rows.count → IsSet F rows
+is_set F rows parts bytes up = record { parts = parts; bytes = bytes_of rows.body.now bytes; rising = up }
 
 -- the first row is in order
 pub first_in_order : (n : ℕ) (body : List ℕ) (j : ℕ) → j < 1 → in_order n body j ≡ true

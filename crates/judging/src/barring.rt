@@ -1,7 +1,7 @@
 // Whether a bar holds in a row.
 ghost use Rattle.std.specs.Prelude.{◌≡◌, take};
 ghost use Rattle.bars.specs.Bars.{is_in, holds, barred};
-ghost use Rattle.bars.specs.Meaning.{conditions_of, all_conditions};
+ghost use Rattle.bars.specs.Meaning.{all_conditions};
 ghost use Rattle.stepping.specs.RowBytes.{cells_of};
 ghost use Rattle.proof_rules.specs.Rules.{row_phases};
 
@@ -22,22 +22,14 @@ fn is_in<B: Bank>(bank: &B, row: &Row, condition: Condition) -> bool
 fn all_hold<B: Bank>(bank: &B, row: &Row, conditions: &[Condition]) -> bool
     ensures { result ≡ holds conditions.now (row_phases (take (B.family bank.now).count (cells_of row.now.bytes))) }
 {
-    for condition in conditions {
-        if !is_in(bank, row, *condition) {
-            return false;
-        }
-    }
-    true
+    conditions
+        .iter()
+        .all(|condition| is_in(bank, row, *condition))
 }
 
 // Whether some bar holds in the row.
 pub fn is_barred<B: Bank>(bank: &B, bars: &[Bar], row: &Row) -> bool
     ensures { result ≡ barred (all_conditions bars.now) (row_phases (take (B.family bank.now).count (cells_of row.now.bytes))) }
 {
-    for bar in bars {
-        if all_hold(bank, row, bar.conditions()) {
-            return true;
-        }
-    }
-    false
+    bars.iter().any(|bar| all_hold(bank, row, bar.conditions()))
 }

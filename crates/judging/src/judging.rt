@@ -1,19 +1,18 @@
 // A proof file judged by the wiring and the bars that stand.
-ghost use Rattle.std.specs.Prelude.{◌≡◌, ◌==◌, length};
+ghost use Rattle.std.specs.Prelude.{◌≡◌};
 ghost use Rattle.fddevs.specs.Scheme.{scheme};
 ghost use Rattle.bars.specs.Meaning.{all_conditions};
 ghost use Rattle.wiring.specs.Meaning.{wiring_of};
-ghost use Rattle.proof_rules.specs.Judging.{is_rows, is_steps, set_vetting, witness_vetting, judged_as, head_vetting, judgement};
+ghost use Rattle.proof_rules.specs.Judging.{is_rows, is_steps, set_vetting, witness_vetting, judged_as, judgement};
 ghost use Rattle.fddevs.specs.Vetting.{Tells};
 ghost use Rattle.proof_rules.specs.Faults.{Fault, vetting_of};
 ghost use Rattle.proof_rules.specs.Laws.{ByTheRules};
 
-use crate::set::vet_rows;
-use crate::walking::walk;
 use bank::interface::Bank;
 use bars::bar::Bar;
 use fddevs::refusal::{Layer, Refusal};
 use proof_rules::evidence::Evidence;
+use stepping::steps::Scheme;
 use wiring::wires::Wiring;
 
 const BODY_LIMIT: usize = 4_194_304;
@@ -33,72 +32,62 @@ fn is_steps(body: &[u8]) -> bool
     body.len() <= BODY_LIMIT && body.len() % 3 == 0
 }
 
-fn vet_set<B: Bank>(bank: &B, wiring: &Wiring, bars: &[Bar], body: &[u8]) -> Result<(), Refusal>
-    ensures { result ≡ set_vetting (scheme (B.family bank.now) (wiring_of wiring.now)) (all_conditions bars.now) (B.family bank.now).count body.now }
-{
-    if !is_rows(bank, body) {
-        return Err(Refusal::Body(Layer::Proof));
-    }
-    vet_rows(bank, wiring, bars, body)
+// The scheme and the bars that a proof file is judged by.
+#[derive(Drop)]
+pub(crate) struct Examined<'a, B> {
+    pub(crate) scheme: Scheme<'a, B>,
+    pub(crate) bars: &'a [Bar],
 }
 
-fn vet_witness<B: Bank>(bank: &B, wiring: &Wiring, bars: &[Bar], body: &[u8]) -> Result<(), Refusal>
-    ensures { result ≡ witness_vetting (scheme (B.family bank.now) (wiring_of wiring.now)) (all_conditions bars.now) body.now }
-{
-    if !is_steps(body) {
-        return Err(Refusal::Body(Layer::Proof));
+impl<B: Bank> Examined<'_, B> {
+    fn vet_set(&self, body: &[u8]) -> Result<(), Refusal>
+        ensures { result ≡ set_vetting (scheme (B.Bank.family self.now.scheme.bank.now) (wiring_of self.now.scheme.wiring.now)) (all_conditions self.now.bars.now) (B.Bank.family self.now.scheme.bank.now).count body.now }
+    {
+        if !is_rows(self.scheme.bank, body) {
+            return Err(Refusal::Body(Layer::Proof));
+        }
+        self.vet_rows(body)
     }
-    walk(bank, wiring, bars, body)
-}
 
-// Judges a body by its kind.
-fn judge_body<B: Bank>(
-    bank: &B,
-    wiring: &Wiring,
-    bars: &[Bar],
-    kind: u8,
-    body: &[u8],
-) -> Result<Evidence, Refusal>
-    ensures { result ≡ judged_as kind (set_vetting (scheme (B.family bank.now) (wiring_of wiring.now)) (all_conditions bars.now) (B.family bank.now).count body.now) (witness_vetting (scheme (B.family bank.now) (wiring_of wiring.now)) (all_conditions bars.now) body.now) }
-{
-    if kind == 1 {
-        vet_set(bank, wiring, bars, body)?;
-        return Ok(Evidence::Set);
+    fn vet_witness(&self, body: &[u8]) -> Result<(), Refusal>
+        ensures { result ≡ witness_vetting (scheme (B.Bank.family self.now.scheme.bank.now) (wiring_of self.now.scheme.wiring.now)) (all_conditions self.now.bars.now) body.now }
+    {
+        if !is_steps(body) {
+            return Err(Refusal::Body(Layer::Proof));
+        }
+        self.walk(body)
     }
-    if kind == 2 {
-        vet_witness(bank, wiring, bars, body)?;
-        return Ok(Evidence::Witness);
-    }
-    Err(Refusal::Kind(Layer::Proof))
-}
 
-// Whether a file is of the version that is read.
-fn is_version_one(version: u8) -> bool
-    ensures { result ≡ (version == 1) }
-{
-    version == 1
-}
+    // Judges a body by its kind.
+    fn judge_body(&self, kind: u8, body: &[u8]) -> Result<Evidence, Refusal>
+        ensures { result ≡ judged_as kind (set_vetting (scheme (B.Bank.family self.now.scheme.bank.now) (wiring_of self.now.scheme.wiring.now)) (all_conditions self.now.bars.now) (B.Bank.family self.now.scheme.bank.now).count body.now) (witness_vetting (scheme (B.Bank.family self.now.scheme.bank.now) (wiring_of self.now.scheme.wiring.now)) (all_conditions self.now.bars.now) body.now) }
+    {
+        let Ok(kind) = Evidence::try_from(kind) else {
+            return Err(Refusal::Kind(Layer::Proof));
+        };
+        match kind {
+            Evidence::Set => self.vet_set(body)?,
+            Evidence::Witness => self.vet_witness(body)?,
+        }
+        Ok(kind)
+    }
 
-// Judges a proof file: what it is, or the refusal with the smallest number that holds.
-fn judge_file<B: Bank>(
-    bank: &B,
-    wiring: &Wiring,
-    bars: &[Bar],
-    file: &[u8],
-) -> Result<Evidence, Refusal>
-    ensures { result ≡ judgement (B.family bank.now) (wiring_of wiring.now) (all_conditions bars.now) file.now }
-{
-    let [version, kind, a, b, c, d, body @ ..] = file else {
-        return Err(Refusal::NotWhole(Layer::Proof));
-    };
-    let length = u32::from_be_bytes([*a, *b, *c, *d]) as usize;
-    if length != body.len() {
-        return Err(Refusal::NotWhole(Layer::Proof));
+    // Judges a proof file: what it is, or the refusal with the smallest number that holds.
+    fn judge_file(&self, file: &[u8]) -> Result<Evidence, Refusal>
+        ensures { result ≡ judgement (B.Bank.family self.now.scheme.bank.now) (wiring_of self.now.scheme.wiring.now) (all_conditions self.now.bars.now) file.now }
+    {
+        let [version, kind, a, b, c, d, body @ ..] = file else {
+            return Err(Refusal::NotWhole(Layer::Proof));
+        };
+        let length = u32::from_be_bytes([*a, *b, *c, *d]) as usize;
+        if length != body.len() {
+            return Err(Refusal::NotWhole(Layer::Proof));
+        }
+        if *version != 1 {
+            return Err(Refusal::Version(Layer::Proof));
+        }
+        self.judge_body(*kind, body)
     }
-    if !is_version_one(*version) {
-        return Err(Refusal::Version(Layer::Proof));
-    }
-    judge_body(bank, wiring, bars, *kind, body)
 }
 
 // Judges a proof file by the wiring and the bars: what it is taken for, or the refusal with the smallest number that
@@ -113,5 +102,9 @@ pub fn judge<B: Bank>(
     ensures exactly { ByTheRules (B.family bank.now) (wiring_of wiring.now) (all_conditions bars.now) file.now result }
     ensures tells { Tells (Fault (B.family bank.now) (wiring_of wiring.now) (all_conditions bars.now) file.now) (vetting_of result) }
 {
-    judge_file(bank, wiring, bars, file)
+    let examined = Examined {
+        scheme: Scheme { bank, wiring },
+        bars,
+    };
+    examined.judge_file(file)
 }

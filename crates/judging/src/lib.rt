@@ -4,6 +4,7 @@
 pub mod barring;
 mod closing;
 pub mod judging;
+pub mod known;
 mod phases;
 mod set;
 mod walking;

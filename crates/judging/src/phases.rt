@@ -24,11 +24,7 @@ fn exists<B: Bank>(bank: &B, row: &Row, part: u8) -> bool
     ensures value { result ≡ nat_lt (nth_cell (cells_of row.now.bytes) part).phase ((B.family bank.now).part part).counts.phases }
     ensures whole { length row.now.bytes ≡ 48 }
 {
-    let phase = phase(row, part);
-    match bank.counts(part) {
-        Some(counts) => phase < counts.phases,
-        None => false,
-    }
+    bank.has_phase(part, phase(row, part))
 }
 
 // Whether every part has the phase that the row gives it.

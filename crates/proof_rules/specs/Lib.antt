@@ -3,3 +3,4 @@ pub mod Rules
 pub mod Judging
 pub mod Laws
 pub mod Faults
+pub mod Kinds

@@ -1,7 +1,6 @@
 -- Steps that lead from a row to none of the rows. Assumes nothing.
-use Rattle.std.specs.Prelude.{◌≡◌, ℕ, true, false, List, length, take, Some, None, Option}
+use Rattle.std.specs.Prelude.{◌≡◌, ℕ, true, false, List, take, Some, None, Option}
 use Rattle.fddevs.specs.declared.scheme.Move.{Move}
-use Rattle.fddevs.specs.declared.scheme.Move.TheVariants.{Outer, Internal}
 use Rattle.fddevs.specs.Rows.{Row, row_after, row_allows}
 use Rattle.fddevs.specs.Scheme.{Scheme}
 use Rattle.fddevs.specs.Vetting.{all_below}
@@ -27,15 +26,12 @@ pub record Departs (S : Scheme) (rows : List Row) (r : Row) (n : ℕ) (d : Depar
   pub one : single d.step ≡ true
   pub out : Out S rows r n d.step d.to
 
--- where none is given, every outer input leads to one of the rows; so does every internal step; so does every single step
-abbrev pub OuterLeave : Scheme → List Row → Row → ℕ → Option Departure → Type 0
-OuterLeave S rows r n (Some d) = Departs S rows r n d
-OuterLeave S rows r n None = all_below (λ x. stays S rows r (Outer x)) S.wiring.outer_inputs ≡ true
+-- where none is given, each of the first `count` steps m leads to one of the rows
+abbrev pub LeavesBy : Scheme → List Row → Row → ℕ → (ℕ → Move) → ℕ → Option Departure → Type 0
+LeavesBy S rows r n m count (Some d) = Departs S rows r n d
+LeavesBy S rows r n m count None = all_below (λ x. stays S rows r (m x)) count ≡ true
 
-abbrev pub InternalLeave : Scheme → List Row → Row → ℕ → Option Departure → Type 0
-InternalLeave S rows r n (Some d) = Departs S rows r n d
-InternalLeave S rows r n None = all_below (λ p. stays S rows r (Internal p)) (length S.parts) ≡ true
-
+-- where none is given, every single step leads to one of the rows
 abbrev pub Leaves : Scheme → List Row → Row → ℕ → Option Departure → Type 0
 Leaves S rows r n (Some d) = Departs S rows r n d
 Leaves S rows r n None = all_stay S rows r ≡ true

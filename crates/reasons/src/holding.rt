@@ -23,10 +23,5 @@ fn is_held<B: Bank>(bank: &B, bar: &Bar, row: &Row) -> bool
 pub fn holding<B: Bank>(bank: &B, bars: &[Bar], row: &Row) -> Option<usize>
     ensures { result ≡ seek (holds_not (all_conditions bars.now) (row_phases (take (B.family bank.now).count (cells_of row.now.bytes)))) 0 (length bars.now) }
 {
-    for (k, bar) in bars.iter().enumerate() {
-        if is_held(bank, bar, row) {
-            return Some(k);
-        }
-    }
-    None
+    bars.iter().position(|bar| is_held(bank, bar, row))
 }

@@ -1,18 +1,20 @@
 // The step that leads from a row of a set to a row that the set does not have.
-ghost use Rattle.std.specs.Prelude.{◌≡◌, length, take};
+ghost use Rattle.std.specs.Prelude.{◌≡◌, ℕ, true, take};
 ghost use Rattle.fddevs.specs.Scheme.{scheme};
+ghost use Rattle.fddevs.specs.declared.scheme.Move.{Move as Step};
 ghost use Rattle.stepping.specs.RowBytes.{cells_of};
 ghost use Rattle.wiring.specs.Meaning.{wiring_of};
 ghost use Rattle.judging.specs.Set.{IsSet};
-ghost use Rattle.proof_rules.specs.Files.{Bytes};
 ghost use Rattle.proof_rules.specs.Judging.{rows_in};
-ghost use Rattle.reasons.specs.Leaving.{LeadsOut, OuterLeave, InternalLeave, Leaves};
+ghost use Rattle.proof_rules.specs.Rules.{single};
+ghost use Rattle.reasons.specs.Leaving.{LeadsOut, LeavesBy, Leaves};
 
 use bank::interface::Bank;
 use book::row::Row;
 use fddevs::scheme::Move;
+use judging::known::know_row;
 use lookup::rows::Rows;
-use stepping::steps::{allows, step};
+use stepping::steps::Scheme;
 use wiring::wires::Wiring;
 
 // A step, and the row that it leads to.
@@ -22,68 +24,45 @@ pub struct Departure {
     pub to: Row,
 }
 
-// Every number of a slice of bytes is a byte: its type says so, and this makes it known to a caller's proof.
-fn know_bytes(bytes: &[u8]) -> Option<&u8>
-    ensures { Bytes bytes.now }
-{
-    bytes.first()
+// A row, and the rows that the steps from it are to lead to.
+#[derive(Drop)]
+struct Leaver<'a, B> {
+    scheme: Scheme<'a, B>,
+    rows: &'a Rows<'a>,
+    row: &'a Row,
 }
 
-// The same of a record, which has 48 of them.
-fn know_row(row: &Row) -> u8
-    ensures bytes { Bytes row.now.bytes }
-    ensures whole { length row.now.bytes ≡ 48 }
-{
-    know_bytes(&row.bytes);
-    row.bytes[0]
-}
-
-// The row that a step leads to, where the step is allowed and the row is none of the rows.
-fn led_out<B: Bank>(bank: &B, wiring: &Wiring, rows: &Rows, row: &Row, a: Move) -> Option<Row>
-    ensures { IsSet (B.family bank.now) rows.now → LeadsOut (scheme (B.family bank.now) (wiring_of wiring.now)) (rows_in (B.family bank.now).count rows.now.body.now) (take (B.family bank.now).count (cells_of row.now.bytes)) (B.family bank.now).count a result }
-{
-    know_row(row);
-    if !allows(bank, wiring, row, a) {
-        return None;
-    }
-    let mut next = *row;
-    step(bank, wiring, a, &mut next);
-    know_row(&next);
-    match rows.find(&next, 0) {
-        Some(_) => None,
-        None => Some(next),
-    }
-}
-
-// The first outer input that leads out.
-fn outer_departure<B: Bank>(bank: &B, wiring: &Wiring, rows: &Rows, row: &Row) -> Option<Departure>
-    ensures { IsSet (B.family bank.now) rows.now → OuterLeave (scheme (B.family bank.now) (wiring_of wiring.now)) (rows_in (B.family bank.now).count rows.now.body.now) (take (B.family bank.now).count (cells_of row.now.bytes)) (B.family bank.now).count result }
-{
-    for x in 0..wiring.outer_inputs() {
-        let step = Move::Outer(x);
-        if let Some(to) = led_out(bank, wiring, rows, row, step) {
-            return Some(Departure { step, to });
+impl<B: Bank> Leaver<'_, B> {
+    // The row that a step leads to, where the step is allowed and the row is none of the rows.
+    fn led_out(&self, a: Move) -> Option<Row>
+        ensures { IsSet (B.Bank.family self.now.scheme.bank.now) self.now.rows.now → LeadsOut (scheme (B.Bank.family self.now.scheme.bank.now) (wiring_of self.now.scheme.wiring.now)) (rows_in (B.Bank.family self.now.scheme.bank.now).count self.now.rows.now.body.now) (take (B.Bank.family self.now.scheme.bank.now).count (cells_of self.now.row.now.bytes)) (B.Bank.family self.now.scheme.bank.now).count a result }
+    {
+        know_row(self.row);
+        if !self.scheme.allows(self.row, a) {
+            return None;
+        }
+        let mut next = *self.row;
+        self.scheme.step(a, &mut next);
+        know_row(&next);
+        match self.rows.find(&next, 0) {
+            Some(_) => None,
+            None => Some(next),
         }
     }
-    None
-}
 
-// The first internal step that leads out.
-fn internal_departure<B: Bank>(
-    bank: &B,
-    wiring: &Wiring,
-    rows: &Rows,
-    row: &Row,
-) -> Option<Departure>
-    ensures { IsSet (B.family bank.now) rows.now → InternalLeave (scheme (B.family bank.now) (wiring_of wiring.now)) (rows_in (B.family bank.now).count rows.now.body.now) (take (B.family bank.now).count (cells_of row.now.bytes)) (B.family bank.now).count result }
-{
-    for part in 0..bank.part_count() {
-        let step = Move::Internal(part);
-        if let Some(to) = led_out(bank, wiring, rows, row, step) {
-            return Some(Departure { step, to });
+    // The first that leads out of the steps of a kind, as many as `count`.
+    fn first<F: Fn(u8) -> Move>(&self, count: u8, step: F) -> Option<Departure>
+        requires { F.IsAlwaysCallable step }
+        ensures { IsSet (B.Bank.family self.now.scheme.bank.now) self.now.rows.now → (m : ℕ → Step) → ((x : ℕ) (a : Step) → F.post step x a → a ≡ m x) → ((x : ℕ) → single (m x) ≡ true) → LeavesBy (scheme (B.Bank.family self.now.scheme.bank.now) (wiring_of self.now.scheme.wiring.now)) (rows_in (B.Bank.family self.now.scheme.bank.now).count self.now.rows.now.body.now) (take (B.Bank.family self.now.scheme.bank.now).count (cells_of self.now.row.now.bytes)) (B.Bank.family self.now.scheme.bank.now).count m count result }
+    {
+        for x in 0..count {
+            let step = step(x);
+            if let Some(to) = self.led_out(step) {
+                return Some(Departure { step, to });
+            }
         }
+        None
     }
-    None
 }
 
 // A single step that leads from the row to a row which is none of the rows, where there is one. The rows must be those
@@ -91,12 +70,17 @@ fn internal_departure<B: Bank>(
 pub fn leaving<B: Bank>(bank: &B, wiring: &Wiring, rows: &Rows, row: &Row) -> Option<Departure>
     ensures { IsSet (B.family bank.now) rows.now → Leaves (scheme (B.family bank.now) (wiring_of wiring.now)) (rows_in (B.family bank.now).count rows.now.body.now) (take (B.family bank.now).count (cells_of row.now.bytes)) (B.family bank.now).count result }
 {
+    let leaver = Leaver {
+        scheme: Scheme { bank, wiring },
+        rows,
+        row,
+    };
     let step = Move::Delay(1);
-    if let Some(to) = led_out(bank, wiring, rows, row, step) {
+    if let Some(to) = leaver.led_out(step) {
         return Some(Departure { step, to });
     }
-    match outer_departure(bank, wiring, rows, row) {
+    match leaver.first(wiring.outer_inputs(), |x| Move::Outer(x)) {
         Some(departure) => Some(departure),
-        None => internal_departure(bank, wiring, rows, row),
+        None => leaver.first(bank.part_count(), |p| Move::Internal(p)),
     }
 }

@@ -1,6 +1,6 @@
 -- What remains is at most 65,534 ticks, so that bytes can write it.
-use Rattle.std.proofs.Common.{◌≡◌, ℕ, ◌<◌, eqb, ltb, sym, subst, ⊎_elim, arith}
-use Rattle.std.proofs.lemmas.Bool.{cases_Bool, eqb-false, ltb-true}
+use Rattle.std.proofs.Common.{◌≡◌, ℕ, ◌<◌, eqb, ltb, refl, sym, subst, ⊎_elim, arith}
+use Rattle.std.proofs.lemmas.Bool.{cases_Bool, eqb-false, ne_eqb, ltb-true}
 use Rattle.fddevs.specs.declared.part.Cell.{Cell}
 use Rattle.fddevs.specs.declared.part.Mark.{Mark}
 use Rattle.fddevs.specs.declared.part.Mark.TheVariants.{Keep, Restart}
@@ -9,12 +9,17 @@ use Rattle.fddevs.specs.declared.part.Span.TheVariants.{Ticks, Unlimited}
 use Rattle.fddevs.specs.Machine.{Family, Short, WithinLimits}
 use Rattle.fddevs.specs.Part.{left}
 use Rattle.fddevs.specs.Rows.{cell_fresh, cell_led, cell_input, cell_delay}
-use Rattle.stepping.specs.RowBytes.{span_of}
+use Rattle.fddevs.specs.Bytes.{span_of, ticks_of}
 use Rattle.stepping.specs.Stepping.{machine}
 
 pub short_read : (v : ℕ) → v < 65536 → Short (span_of v)
 short_read v h =
     ⊎_elim (λ y. rw y tt) (λ y. let n = eqb-false v 65535 y in rw y (omega arith)) (cases_Bool (eqb v 65535))
+
+-- a short span is written by its ticks
+pub span_ticks : (s : Span) → Short s → span_of (ticks_of s) ≡ s
+span_ticks (Ticks n) h = rw (ne_eqb n 65535 (λ e. omega arith))
+span_ticks Unlimited h = refl
 
 left_short : (s : Span) (d : ℕ) → Short s → Short (left s d)
 left_short (Ticks n) d h = omega arith

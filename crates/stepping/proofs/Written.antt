@@ -8,7 +8,8 @@ use Rattle.fddevs.specs.declared.part.Span.{Span}
 use Rattle.fddevs.specs.declared.part.Span.TheVariants.{Ticks, Unlimited}
 use Rattle.fddevs.specs.Machine.{Short}
 use Rattle.fddevs.specs.Rows.{Row}
-use Rattle.stepping.specs.RowBytes.{Bytes, span_of, cell_of, cells_of, span_bytes, row_bytes}
+use Rattle.stepping.specs.RowBytes.{Bytes, cell_of, cells_of, span_bytes, row_bytes}
+use Rattle.fddevs.specs.Bytes.{span_of}
 use Rattle.stepping.proofs.Shorts.{short_read}
 
 abbrev pub Shorts : Row → Type 0

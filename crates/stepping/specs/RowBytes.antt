@@ -1,7 +1,8 @@
 -- A row as bytes: three for each part, the phase and then the remaining ticks in two, high byte first, FF FF for
 -- unlimited. Assumes nothing.
-use Rattle.std.specs.Prelude.{ℕ, ◌+◌, ◌*◌, ◌/◌, ◌%◌, ◌<◌, cond, List, [], ◌∷◌, ◌++◌, ◌==◌}
+use Rattle.std.specs.Prelude.{ℕ, ◌+◌, ◌*◌, ◌/◌, ◌%◌, ◌<◌, List, [], ◌∷◌, ◌++◌}
 use Rattle.std.specs.List.{AllByRecursion}
+use Rattle.fddevs.specs.Bytes.{span_of}
 use Rattle.fddevs.specs.declared.part.Cell.{Cell}
 use Rattle.fddevs.specs.declared.part.Span.{Span}
 use Rattle.fddevs.specs.declared.part.Span.TheVariants.{Ticks, Unlimited}
@@ -10,10 +11,6 @@ use Rattle.fddevs.specs.Rows.{Row}
 -- each number is a byte, as in every file
 abbrev pub Bytes : List ℕ → Type 0
 Bytes bs = AllByRecursion (λ b. b < 256) bs
-
--- what two bytes write
-abbrev pub span_of : ℕ → Span
-span_of v = cond (v == 65535) Unlimited (Ticks v)
 
 abbrev pub cell_of : ℕ → ℕ → ℕ → Cell
 cell_of p a b = record { phase = p; remaining = span_of (a * 256 + b) }

@@ -1,37 +1,14 @@
 // The cells of a row, read from its bytes and written into them.
-ghost use Rattle.std.specs.Prelude.{◌≡◌, ◌<◌, length, slice_set};
-ghost use Rattle.fddevs.specs.Machine.{Short};
-ghost use Rattle.stepping.specs.RowBytes.{span_of, cells_of};
+ghost use Rattle.std.specs.Prelude.{◌≡◌, ◌<◌, length, nat_lt, slice_set};
+ghost use Rattle.fddevs.specs.Machine.{Short, when};
+ghost use Rattle.stepping.specs.RowBytes.{cells_of};
 ghost use Rattle.stepping.specs.Stepping.{nth_cell};
 
 use book::row::Row;
 use fddevs::part::{Cell, Span};
 
-// What stands for unlimited.
-const UNLIMITED: u16 = 65535;
-
-fn span(ticks: u16) -> Span
-    ensures { result ≡ span_of ticks }
-{
-    if ticks == UNLIMITED {
-        Span::Unlimited
-    } else {
-        Span::Ticks(ticks)
-    }
-}
-
-fn ticks(remaining: Span) -> u16
-    requires { Short remaining }
-    ensures { span_of result ≡ remaining }
-{
-    match remaining {
-        Span::Ticks(ticks) => ticks,
-        Span::Unlimited => UNLIMITED,
-    }
-}
-
-// The cell of a part. No row says that 65535 ticks remain.
-pub(crate) fn cell(row: &Row, part: u8) -> Cell
+// No row says that 65535 ticks remain.
+pub(crate) fn read(row: &Row, part: u8) -> Cell
     requires { part < 16 }
     ensures value { result ≡ nth_cell (cells_of row.now.bytes) part }
     ensures short { Short result.remaining }
@@ -41,7 +18,18 @@ pub(crate) fn cell(row: &Row, part: u8) -> Cell
     let ticks = u16::from_be_bytes([row.bytes[at + 1], row.bytes[at + 2]]);
     Cell {
         phase: row.bytes[at],
-        remaining: span(ticks),
+        remaining: Span::from(ticks),
+    }
+}
+
+// The cell of a part: a row has cells for the parts 0 to 15.
+pub fn cell(row: &Row, part: u8) -> Option<Cell>
+    ensures { result ≡ when (nat_lt part 16) (nth_cell (cells_of row.now.bytes) part) }
+{
+    if part < 16 {
+        Some(read(row, part))
+    } else {
+        None
     }
 }
 
@@ -51,7 +39,7 @@ pub(crate) fn put(row: &mut Row, part: u8, cell: Cell)
     ensures { cells_of row.new.bytes ≡ slice_set (cells_of row.old.bytes) part cell }
 {
     let at = 3 * usize::from(part);
-    let [high, low] = ticks(cell.remaining).to_be_bytes();
+    let [high, low] = u16::from(cell.remaining).to_be_bytes();
     row.bytes[at] = cell.phase;
     row.bytes[at + 1] = high;
     row.bytes[at + 2] = low;

@@ -1,61 +1,70 @@
 // The steps of one part of a bank, on its cell. What the part does not have is ignored: an input leaves the cell as it
 // is, and a phase is unlimited, stays and is silent.
 ghost use Rattle.std.specs.Prelude.{◌≡◌, ◌<◌};
-ghost use Rattle.fddevs.specs.Rows.{cell_fresh, cell_input, cell_internal, cell_delay, lasts, is_due};
+ghost use Rattle.fddevs.specs.Rows.{cell_fresh, cell_input, cell_internal, cell_delay, is_due};
 ghost use Rattle.stepping.specs.Stepping.{machine};
 
 use bank::interface::Bank;
 use fddevs::part::{Cell, Mark, Output, Span};
 
-// A phase with its own lifespan, from the beginning.
-fn fresh<B: Bank>(bank: &B, part: u8, phase: u8) -> Cell
-    requires { part < (B.family bank.now).count }
-    ensures { result ≡ cell_fresh (machine (B.family bank.now) part) phase }
-{
-    Cell {
-        phase,
-        remaining: bank.lifespan(part, phase).unwrap_or(Span::Unlimited),
+// A part of a bank, by its number.
+#[derive(Drop)]
+pub(crate) struct Part<'a, B: Bank> {
+    pub(crate) bank: &'a B,
+    pub(crate) number: u8,
+    ghost there: { number < (B.Bank.family bank.now).count },
+}
+
+impl<B: Bank> Part<'_, B> {
+    // A phase with its own lifespan, from the beginning.
+    fn fresh(&self, phase: u8) -> Cell
+        ensures { result ≡ cell_fresh (machine (B.Bank.family self.now.bank.now) self.now.number) phase }
+    {
+        Cell {
+            phase,
+            remaining: self
+                .bank
+                .lifespan(self.number, phase)
+                .unwrap_or(Span::Unlimited),
+        }
     }
-}
 
-pub(crate) fn begin<B: Bank>(bank: &B, part: u8) -> Cell
-    requires { part < (B.family bank.now).count }
-    ensures { result ≡ cell_fresh (machine (B.family bank.now) part) (machine (B.family bank.now) part).start }
-{
-    let phase = bank.start(part).unwrap_or(0);
-    fresh(bank, part, phase)
-}
-
-pub(crate) fn after_input<B: Bank>(bank: &B, part: u8, input: u8, cell: Cell) -> Cell
-    requires { part < (B.family bank.now).count }
-    ensures { result ≡ cell_input (machine (B.family bank.now) part) input cell }
-{
-    let Some(external) = bank.external(part, cell.phase, input) else {
-        return cell;
-    };
-    match external.mark {
-        Mark::Restart => fresh(bank, part, external.next),
-        Mark::Keep => Cell {
-            phase: external.next,
-            ..cell
-        },
+    pub(crate) fn begin(&self) -> Cell
+        ensures { result ≡ cell_fresh (machine (B.Bank.family self.now.bank.now) self.now.number) (machine (B.Bank.family self.now.bank.now) self.now.number).start }
+    {
+        self.fresh(self.bank.start(self.number).unwrap_or(0))
     }
-}
 
-pub(crate) fn after_internal<B: Bank>(bank: &B, part: u8, cell: Cell) -> Cell
-    requires { part < (B.family bank.now).count }
-    ensures { result ≡ cell_internal (machine (B.family bank.now) part) cell }
-{
-    let next = bank.next(part, cell.phase).unwrap_or(cell.phase);
-    fresh(bank, part, next)
-}
+    pub(crate) fn after_input(&self, input: u8, cell: Cell) -> Cell
+        ensures { result ≡ cell_input (machine (B.Bank.family self.now.bank.now) self.now.number) input cell }
+    {
+        let Some(external) = self.bank.external(self.number, cell.phase, input) else {
+            return cell;
+        };
+        match external.mark {
+            Mark::Restart => self.fresh(external.next),
+            Mark::Keep => Cell {
+                phase: external.next,
+                ..cell
+            },
+        }
+    }
 
-// What the internal step from a phase sends.
-pub(crate) fn output<B: Bank>(bank: &B, part: u8, phase: u8) -> Output
-    requires { part < (B.family bank.now).count }
-    ensures { result ≡ (machine (B.family bank.now) part).output phase }
-{
-    bank.output(part, phase).unwrap_or(Output::Silent)
+    pub(crate) fn after_internal(&self, cell: Cell) -> Cell
+        ensures { result ≡ cell_internal (machine (B.Bank.family self.now.bank.now) self.now.number) cell }
+    {
+        let next = self.bank.next(self.number, cell.phase);
+        self.fresh(next.unwrap_or(cell.phase))
+    }
+
+    // What the internal step from a phase sends.
+    pub(crate) fn output(&self, phase: u8) -> Output
+        ensures { result ≡ (machine (B.Bank.family self.now.bank.now) self.now.number).output phase }
+    {
+        self.bank
+            .output(self.number, phase)
+            .unwrap_or(Output::Silent)
+    }
 }
 
 pub(crate) fn after_delay(cell: Cell, d: u32) -> Cell
@@ -67,16 +76,6 @@ pub(crate) fn after_delay(cell: Cell, d: u32) -> Cell
             remaining: Span::Ticks(u32::from(ticks).saturating_sub(d) as u16),
         },
         Span::Unlimited => cell,
-    }
-}
-
-// Whether d ticks are at most what remains.
-pub(crate) fn lasts(remaining: Span, d: u32) -> bool
-    ensures { result ≡ lasts d remaining }
-{
-    match remaining {
-        Span::Ticks(ticks) => d <= u32::from(ticks),
-        Span::Unlimited => true,
     }
 }
 

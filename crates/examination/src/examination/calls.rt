@@ -1,4 +1,4 @@
-ghost use Rattle.std.specs.Prelude.{◌≡◌, ◌<◌, ◌≤◌, [], length, Ok};
+ghost use Rattle.std.specs.Prelude.{◌≡◌, [], length};
 ghost use Rattle.std.specs.List.{slice_get};
 ghost use Rattle.bars.specs.Meaning.{all_conditions, shown};
 ghost use Rattle.bars.specs.Vetting.{vetting};
@@ -15,102 +15,26 @@ ghost use Rattle.examination.specs.Leads.{Leads, HoldsTheLaw};
 ghost use Rattle.examination.specs.Meaning.{held};
 
 use crate::examination::Examination;
-use crate::standing::Standing;
+use crate::state::State;
 use bank::interface::Bank;
 use bars::bar::Bar;
-use bars::bars::Bars;
 use bars::condition::Condition;
-use bars::vetting::vet;
 use fddevs::refusal::Refusal;
-use history::verdict::{Event, Verdict};
-use judging::judging::judge;
+use history::verdict::Verdict;
 use proof_rules::evidence::Evidence;
-use wiring::reading::read;
 use wiring::wires::Wiring;
 
-fn nth_bar(standing: &[Bar], k: usize) -> Option<Bar>
-    ensures { shown result ≡ slice_get (all_conditions standing.now) k }
-{
-    if k < standing.len() {
-        Some(standing[k])
-    } else {
-        None
-    }
-}
-
-fn bars_kept(kept: &Standing) -> usize
-    ensures { result ≡ kept.now.bars }
-{
-    kept.bars
-}
-
 impl<B: Bank> Examination<B> {
-    fn begin(bank: B) -> Self
-        ensures state { held result ≡ begun }
-        ensures bank { result.bank ≡ bank }
-    {
-        Examination {
-            bank,
-            wiring: Wiring::none(),
-            bars: Bars::empty(),
-            standing: Standing {
-                bars: 0,
-                verdict: Verdict::Open,
-            },
-        }
-    }
-
     // No wires, no outer inputs or outputs, no bars, and open.
     pub fn new(bank: B) -> Self
         ensures state { held result ≡ begun }
         ensures bank { result.bank ≡ bank }
         ensures led { Led (B.Bank.family result.bank) [] (held result) }
     {
-        Examination::begin(bank)
-    }
-
-    fn lay(&mut self, wiring: Wiring)
-        ensures state { held self.new ≡ after_wire (Ok (wiring_of wiring)) (held self.old) }
-        ensures bank { self.new.bank ≡ self.old.bank }
-    {
-        self.wiring = wiring;
-        self.standing.note(Event::Wired);
-    }
-
-    fn add(&mut self, conditions: &[Condition])
-        requires room { self.old.standing.bars < 16 }
-        requires few { length conditions.now ≤ 4 }
-        ensures state { held self.new ≡ after_bar (Ok tt) conditions.now (held self.old) }
-        ensures bank { self.new.bank ≡ self.old.bank }
-    {
-        self.bars.put(self.standing.bars, conditions);
-        self.standing.add_bar();
-    }
-
-    fn standing_bars(&self) -> &[Bar]
-        ensures { all_conditions result.now ≡ (held self.now).bars }
-    {
-        self.bars.standing(self.standing.bars)
-    }
-
-    fn take_wiring(&mut self, file: &[u8]) -> Result<(), Refusal>
-        ensures answer { result ≡ answer_of (reading (B.Bank.family self.old.bank) file.now) }
-        ensures state { held self.new ≡ after_wire (reading (B.Bank.family self.old.bank) file.now) (held self.old) }
-        ensures bank { self.new.bank ≡ self.old.bank }
-    {
-        let wiring = read(&self.bank, file)?;
-        self.lay(wiring);
-        Ok(())
-    }
-
-    fn take_bar(&mut self, conditions: &[Condition]) -> Result<(), Refusal>
-        ensures answer { result ≡ vetting (B.Bank.family self.old.bank) (held self.old).bars conditions.now }
-        ensures state { held self.new ≡ after_bar (vetting (B.Bank.family self.old.bank) (held self.old).bars conditions.now) conditions.now (held self.old) }
-        ensures bank { self.new.bank ≡ self.old.bank }
-    {
-        vet(&self.bank, self.standing_bars(), conditions)?;
-        self.add(conditions);
-        Ok(())
+        Examination {
+            bank,
+            state: State::begin(),
+        }
     }
 
     // Takes the wiring of a file in place of the one before, and keeps the bars. The verdict becomes open.
@@ -120,7 +44,7 @@ impl<B: Bank> Examination<B> {
         ensures bank { self.new.bank ≡ self.old.bank }
         ensures leads { Leads B.Bank.family self.old (wire_call file.now result) self.new }
     {
-        self.take_wiring(file)
+        self.state.take_wiring(&self.bank, file)
     }
 
     // Adds a bar at the end. A clear verdict becomes open; another stays.
@@ -130,34 +54,7 @@ impl<B: Bank> Examination<B> {
         ensures bank { self.new.bank ≡ self.old.bank }
         ensures leads { Leads B.Bank.family self.old (bar_call conditions.now result) self.new }
     {
-        self.take_bar(conditions)
-    }
-
-    fn judged(&self, file: &[u8]) -> Result<Evidence, Refusal>
-        ensures { result ≡ judgement (B.Bank.family self.now.bank) (held self.now).wiring (held self.now).bars file.now }
-    {
-        judge(&self.bank, &self.wiring, self.standing_bars(), file)
-    }
-
-    fn settle(&mut self, shown: Evidence)
-        ensures state { held self.new ≡ after_offer (Ok shown) (held self.old) }
-        ensures bank { self.new.bank ≡ self.old.bank }
-    {
-        self.standing.note(Event::Accepted(shown));
-    }
-
-    fn take_proof(&mut self, file: &[u8]) -> Result<Evidence, Refusal>
-        ensures answer { result ≡ judgement (B.Bank.family self.old.bank) (held self.old).wiring (held self.old).bars file.now }
-        ensures state { held self.new ≡ after_offer (judgement (B.Bank.family self.old.bank) (held self.old).wiring (held self.old).bars file.now) (held self.old) }
-        ensures bank { self.new.bank ≡ self.old.bank }
-    {
-        match self.judged(file) {
-            Ok(shown) => {
-                self.settle(shown);
-                Ok(shown)
-            }
-            Err(refusal) => Err(refusal),
-        }
+        self.state.take_bar(&self.bank, conditions)
     }
 
     // Takes a proof file. An accepted set makes the verdict clear, an accepted witness reached.
@@ -169,7 +66,7 @@ impl<B: Bank> Examination<B> {
         ensures bank { self.new.bank ≡ self.old.bank }
         ensures leads { Leads B.Bank.family self.old (offer_call file.now result) self.new }
     {
-        self.take_proof(file)
+        self.state.take_proof(&self.bank, file)
     }
 
     // What the examination has shown. Where it reads clear, no run of its scheme enters a state that is barred now;
@@ -178,7 +75,7 @@ impl<B: Bank> Examination<B> {
         ensures reads { result ≡ (held self.now).verdict }
         ensures law { HoldsTheLaw B.Bank.family self.now result }
     {
-        self.standing.verdict
+        self.state.standing.verdict
     }
 
     pub fn bank(&self) -> &B
@@ -190,19 +87,26 @@ impl<B: Bank> Examination<B> {
     pub fn wiring(&self) -> &Wiring
         ensures { wiring_of result.now ≡ (held self.now).wiring }
     {
-        &self.wiring
+        &self.state.wiring
+    }
+
+    // The bars that stand, in the order in which they were taken.
+    pub fn bars(&self) -> &[Bar]
+        ensures { all_conditions result.now ≡ (held self.now).bars }
+    {
+        self.state.bars()
     }
 
     pub fn bar_count(&self) -> usize
         ensures { result ≡ length (held self.now).bars }
     {
-        bars_kept(&self.standing)
+        self.state.standing.bars
     }
 
     // The bar at a place, counted from 0.
     pub fn bar_at(&self, k: usize) -> Option<Bar>
         ensures { shown result ≡ slice_get (held self.now).bars k }
     {
-        nth_bar(self.standing_bars(), k)
+        self.bars().get(k).copied()
     }
 }

@@ -1,19 +1,14 @@
-use Rattle.std.proofs.Common.{sym, arith, below_more}
-use Rattle.fddevs.proofs.Vetting.{first_some, first_none}
+use Rattle.std.proofs.Common.{◌≡◌, ℕ, Bool, true, false, ap, ◌∙◌, rules}
+use Rattle.std.proofs.lemmas.Iterator.{first_from_Range}
+use Rattle.fddevs.specs.Vetting.{seek}
+use Rattle.fddevs.proofs.Ranges.{first_is}
 use Rattle.stepping.specs.RowBytes.{cells_of}
 use Rattle.reasons.specs.Parts.{has_its_phase}
 use Rattle.reasons.proofs.parts.missing_phase.Goals as goal
 
-pub returns-then-not-has_its_phase : goal.returns-then-not-has_its_phase
-returns-then-not-has_its_phase g c =
-    let F = g.B.Bank.family c.args.bank.now in
-    sym (first_some (has_its_phase F (cells_of c.args.row.now.bytes)) F.count c.loop-part.part (omega arith)
-    c.loop-part.invariant (sym c.if-not-has_its_phase.ensures))
-
-pub loop-part-preserved : goal.loop-part-preserved
-loop-part-preserved g c = below_more _ _ c.loop-part.invariant (sym c.if-not-has_its_phase.ensures)
-
 pub returns : goal.returns
 returns g c =
-    let F = g.B.Bank.family c.args.bank.now in
-    sym (first_none (has_its_phase F (cells_of c.args.row.now.bytes)) F.count (λ j h. c.loop-part.invariant j (omega arith)))
+    let t : ℕ → Bool = has_its_phase (g.B.Bank.family c.args.bank.now) (cells_of c.args.row.now.bytes) in
+    first_is t c.part_count.result c.find.result
+    (first_from_Range _ _ _ c.find.result (λ k. t k ≡ false) (λ k. t k ≡ true) c.find.ensures.ran (λ k q h. search rules) (λ k q h. search rules))
+    ∙ ap (seek t 0) c.part_count.ensures

@@ -14,7 +14,7 @@ put-requires g c =
     let here : p < F.count = omega arith in
     record {
       within = omega (arith, limits.few);
-      short = short_fresh F limits p here (machine F p).start c.begin.result c.begin.ensures;
+      short = short_fresh F limits p here (machine F p).start c.begin-begin.result c.begin-begin.ensures;
     }
 
 pub loop-part-init : goal.loop-part-init
@@ -23,8 +23,8 @@ loop-part-init g c = made_none (λ i _. begun (g.B.Bank.family c.args.bank.now) 
 pub loop-part-preserved : goal.loop-part-preserved
 loop-part-preserved g c =
     made_more (λ i _. begun (g.B.Bank.family c.args.bank.now) i) c.loop-part.part (replicate 16 no_cell)
-    (cells_of c.loop-part.row.bytes) (cells_of c.put.new.row.bytes) c.begin.result c.loop-part.invariant
-    c.begin.ensures c.put.ensures
+    (cells_of c.loop-part.row.bytes) (cells_of c.put.new.row.bytes) c.begin-begin.result c.loop-part.invariant
+    c.begin-begin.ensures c.put.ensures
 
 pub returns : goal.returns
 returns g c =

@@ -3,11 +3,6 @@ use Rattle.history.specs.Held.{Held}
 use Rattle.history.specs.Led.{Led, begins}
 use Rattle.examination.proofs.examination.Examination.new.Goals as goal
 
-pub returns : goal.returns
-returns g c =
-    let y = c.begin.ensures in
-    record {
-      state = y.state;
-      bank = y.bank;
-      led = subst (λ (x : Held). Led (g.B.Bank.family c.begin.result.bank) [] x) (sym y.state) begins;
-    }
+pub returns-clause-led : goal.returns-clause-led
+returns-clause-led g c =
+    subst (λ (x : Held). Led (g.B.Bank.family c.args.bank) [] x) (sym c.begin.ensures) begins

@@ -13,22 +13,24 @@ use Rattle.examination.specs.Meaning.{held}
 use Rattle.examination.proofs.Led.{leads_by}
 use Rattle.examination.proofs.examination.Examination.offer.Goals as goal
 
-pub returns : goal.returns
-returns g c =
+pub returns-clause-exactly : goal.returns-clause-exactly
+returns-clause-exactly g c =
     let x = c.args.self.now in
     let F = g.B.Bank.family x.bank in
     let file = c.args.file.now in
-    let bytes = typed_bytes file c.type_inv.file in
-    let y = c.take_proof.ensures in
-    record {
-      answer = y.answer;
-      exactly =
-          subst (ByTheRules F (held x).wiring (held x).bars file) (sym y.answer)
-          (judged_by_the_rules F (g.met.B.Bank.limits x.bank) (held x).wiring (held x).bars file bytes);
-      tells =
-          subst (λ (r : Result Evidence Refusal). Tells (Fault F (held x).wiring (held x).bars file) (vetting_of r)) (sym y.answer)
-          (judging_tells F (held x).wiring (held x).bars file (All-drop _ 6 file bytes));
-      state = y.state;
-      bank = y.bank;
-      leads = leads_by g.B.Bank.family x c.take_proof.new.self (offer_call file c.take_proof.result) y.state (bytes, y.answer);
-    }
+    subst (ByTheRules F (held x).wiring (held x).bars file) (sym c.take_proof.ensures.answer)
+    (judged_by_the_rules F (g.met.B.Bank.limits x.bank) (held x).wiring (held x).bars file (typed_bytes file c.type_inv.file))
+
+pub returns-clause-tells : goal.returns-clause-tells
+returns-clause-tells g c =
+    let x = c.args.self.now in
+    let F = g.B.Bank.family x.bank in
+    let file = c.args.file.now in
+    subst (λ (r : Result Evidence Refusal). Tells (Fault F (held x).wiring (held x).bars file) (vetting_of r))
+    (sym c.take_proof.ensures.answer)
+    (judging_tells F (held x).wiring (held x).bars file (All-drop _ 6 file (typed_bytes file c.type_inv.file)))
+
+pub returns-clause-leads : goal.returns-clause-leads
+returns-clause-leads g c =
+    leads_by g.B.Bank.family c.args.self.now (record { bank = c.args.self.now.bank; state = c.take_proof.new.self }) (offer_call c.args.file.now c.take_proof.result)
+    c.take_proof.ensures.state (typed_bytes c.args.file.now c.type_inv.file, c.take_proof.ensures.answer)
