@@ -1,12 +1,18 @@
 -- The cells of a row's parts, by their numbers.
-use Rattle.std.proofs.Common.{◌≡◌, ℕ, zero, suc, ◌+◌, ◌<◌, ◌≤◌, true, false, ◌&&◌, eqb, ltb, List, [], ◌∷◌, length, get_or, take, drop, sym, refl, ap, ◌∙◌, arith}
-use Rattle.std.proofs.lemmas.List.{at_drop_more, at_drop_all}
+use Rattle.std.proofs.Common.{◌≡◌, ℕ, zero, suc, ◌<◌, ◌≤◌, Bool, true, false, eqb, ltb, List, [], ◌∷◌, length, get_or, take, Decides, sym, refl, ap₂, ◌∙◌, arith}
+use Rattle.std.proofs.lemmas.Bool.{and_parts, and_from}
+use Rattle.std.proofs.lemmas.Bool.Decides.{same_from_decides, Decides-like}
+use Rattle.std.proofs.lemmas.List.{length-take-le, get_or-take}
 use Rattle.fddevs.specs.declared.part.Cell.{Cell}
-use Rattle.fddevs.specs.Machine.{Machine, idle_machine}
+use Rattle.fddevs.specs.Machine.{Machine, Family, idle_machine}
+use Rattle.fddevs.specs.Scheme.{scheme}
+use Rattle.fddevs.specs.Vetting.{all_below}
+use Rattle.fddevs.proofs.Vetting.{below_true, true_below}
 use Rattle.fddevs.specs.Rows.{Row}
 use Rattle.bars.specs.Bars.{is_in}
 use Rattle.stepping.specs.Stepping.{no_cell, nth_cell}
-use Rattle.stepping.proofs.Made.{front_cell, front_length, front_bound}
+use Rattle.stepping.proofs.Made.{count_parts, part_at}
+use Rattle.wiring.specs.Meaning.{no_wiring}
 use Rattle.proof_rules.specs.Judging.{phases_exist}
 use Rattle.proof_rules.specs.Rules.{row_phases}
 
@@ -23,30 +29,38 @@ in_past (suc n) [] p s h = refl
 in_past (suc n) (c ∷ cs) zero s h = absurd (omega arith)
 in_past (suc n) (c ∷ cs) (suc p) s h = in_past n cs p s (omega arith)
 
--- the phases of the parts from k on
-module _ (ms : List Machine) (n : ℕ) (cs : Row) (k : ℕ) where
-  this_and_rest : k < length ms → k < n → k < length cs →
-      phases_exist (drop k ms) (drop k (take n cs))
-      ≡ (ltb (nth_cell cs k).phase (get_or ms k idle_machine).counts.phases
-      && phases_exist (drop (k + 1) ms) (drop (k + 1) (take n cs)))
-  this_and_rest h l m =
-      at_drop_more (λ xs. phases_exist xs (drop k (take n cs))) ms k idle_machine h
-      ∙ at_drop_more (λ xs. phases_exist (get_or ms k idle_machine ∷ drop (k + 1) ms) xs) (take n cs) k no_cell (front_length n cs k l m)
-      ∙ ap
-      (λ (c : Cell). ltb c.phase (get_or ms k idle_machine).counts.phases
-      && phases_exist (drop (k + 1) ms) (drop (k + 1) (take n cs))) (front_cell n cs k l)
+-- each part has its phase
+abbrev phased : List Machine → Row → ℕ → Bool
+phased ms cs k = ltb (nth_cell cs k).phase (get_or ms k idle_machine).counts.phases
 
-  pub exist_more : k < length ms → k < n → k < length cs →
-      ltb (nth_cell cs k).phase (get_or ms k idle_machine).counts.phases ≡ true →
-      phases_exist (drop (k + 1) ms) (drop (k + 1) (take n cs)) ≡ phases_exist (drop k ms) (drop k (take n cs))
-  exist_more h l m e = sym (this_and_rest h l m ∙ ap (λ b. b && phases_exist (drop (k + 1) ms) (drop (k + 1) (take n cs))) e)
+one_more : (m : Machine) (ms : List Machine) (c : Cell) (cs : Row) → ltb c.phase m.counts.phases ≡ true →
+    ((k : ℕ) → k < length ms → phased ms cs k ≡ true) → (k : ℕ) → k < suc (length ms) → phased (m ∷ ms) (c ∷ cs) k ≡ true
+one_more m ms c cs first rest zero h = first
+one_more m ms c cs first rest (suc k) h = rest k (omega arith)
 
-  pub exist_fails : k < length ms → k < n → k < length cs →
-      ltb (nth_cell cs k).phase (get_or ms k idle_machine).counts.phases ≡ false →
-      phases_exist (drop k ms) (drop k (take n cs)) ≡ false
-  exist_fails h l m e = this_and_rest h l m ∙ ap (λ b. b && phases_exist (drop (k + 1) ms) (drop (k + 1) (take n cs))) e
+exist_decides : (ms : List Machine) (cs : Row) → length ms ≡ length cs →
+    Decides (phases_exist ms cs) ((k : ℕ) → k < length ms → phased ms cs k ≡ true)
+exist_decides [] [] e = (λ _ k h. absurd (omega arith), λ _. refl)
+exist_decides [] (c ∷ cs) e = absurd (omega arith)
+exist_decides (m ∷ ms) [] e = absurd (omega arith)
+exist_decides (m ∷ ms) (c ∷ cs) e =
+    let r = exist_decides ms cs (omega arith) in (
+      (λ t. let p = and_parts (ltb c.phase m.counts.phases) (phases_exist ms cs) t in one_more m ms c cs p.0 (r.0 p.1)),
+      λ h. and_from _ _ (h 0 (omega arith)) (r.1 (λ k l. h (suc k) (omega arith))),
+    )
 
-  pub exist_done : length ms ≤ k → n ≤ k → phases_exist (drop k ms) (drop k (take n cs)) ≡ true
-  exist_done h l =
-      at_drop_all (λ xs. phases_exist xs (drop k (take n cs))) ms k h
-      ∙ at_drop_all (λ xs. phases_exist [] xs) (take n cs) k (omega (arith, front_bound n cs))
+module _ (F : Family) (cs : Row) (long : F.count ≤ length cs) where
+  abbrev parts : List Machine
+  parts = (scheme F no_wiring).parts
+
+  same : (k : ℕ) → k < F.count → phased parts (take F.count cs) k ≡ ltb (nth_cell cs k).phase (F.part k).counts.phases
+  same k l =
+      ap₂ (λ (c : Cell) (m : Machine). ltb c.phase m.counts.phases) (get_or-take F.count cs k no_cell l) (part_at F no_wiring k l)
+
+  pub exist_below : all_below (λ k. ltb (nth_cell cs k).phase (F.part k).counts.phases) F.count ≡ phases_exist parts (take F.count cs)
+  exist_below =
+      let n = count_parts F no_wiring in
+      let m = length-take-le F.count cs long in
+      same_from_decides _ _ (true_below _ F.count, below_true _ F.count)
+      (Decides-like _ (λ h k l. sym (same k l) ∙ h k (omega arith)) (λ h k l. let l' : k < F.count = omega arith in same k l' ∙ h k l')
+      (exist_decides parts (take F.count cs) (omega arith)))

@@ -10,11 +10,13 @@ use bank::interface::Bank;
 use bars::bar::Bar;
 use bars::condition::Condition;
 use book::row::Row;
+use stepping::known::know_row;
 
 // Whether the row's part is in the phase.
 fn is_in<B: Bank>(bank: &B, row: &Row, condition: Condition) -> bool
     ensures { result ≡ is_in (row_phases (take (B.family bank.now).count (cells_of row.now.bytes))) condition.part condition.phase }
 {
+    know_row(row);
     condition.part < bank.part_count() && phase(row, condition.part) == condition.phase
 }
 

@@ -9,11 +9,11 @@ ghost use Rattle.proof_rules.specs.Judging.{rows_in, stays, all_stay, among};
 ghost use Rattle.lookup.specs.Finding.{Rising};
 ghost use Rattle.lookup.specs.Shape.{shape, shape_of};
 
-use crate::known::know_row;
 use bank::interface::Bank;
 use book::row::Row;
 use fddevs::scheme::Move;
 use lookup::rows::Rows;
+use stepping::known::know_row;
 use stepping::steps::Scheme;
 
 // Where the search of each kind of step last ended: the next one begins there.

@@ -4,7 +4,6 @@
 pub mod barring;
 mod closing;
 pub mod judging;
-pub mod known;
 mod phases;
 mod set;
 mod walking;

@@ -1,5 +1,5 @@
 // The phases of a row's parts.
-ghost use Rattle.std.specs.Prelude.{◌≡◌, ◌<◌, length, take, nat_lt};
+ghost use Rattle.std.specs.Prelude.{◌≡◌, ◌<◌, take, nat_lt};
 ghost use Rattle.fddevs.specs.Scheme.{scheme};
 ghost use Rattle.stepping.specs.RowBytes.{cells_of};
 ghost use Rattle.stepping.specs.Stepping.{nth_cell};
@@ -8,12 +8,12 @@ ghost use Rattle.proof_rules.specs.Judging.{phases_exist};
 
 use bank::interface::Bank;
 use book::row::Row;
+use stepping::known::know_row;
 
 // The phase of a part.
 pub(crate) fn phase(row: &Row, part: u8) -> u8
     requires { part < 16 }
-    ensures value { result ≡ (nth_cell (cells_of row.now.bytes) part).phase }
-    ensures whole { length row.now.bytes ≡ 48 }
+    ensures { result ≡ (nth_cell (cells_of row.now.bytes) part).phase }
 {
     row.bytes[3 * usize::from(part)]
 }
@@ -21,8 +21,7 @@ pub(crate) fn phase(row: &Row, part: u8) -> u8
 // Whether a part has the phase that the row gives it.
 fn exists<B: Bank>(bank: &B, row: &Row, part: u8) -> bool
     requires { part < (B.family bank.now).count }
-    ensures value { result ≡ nat_lt (nth_cell (cells_of row.now.bytes) part).phase ((B.family bank.now).part part).counts.phases }
-    ensures whole { length row.now.bytes ≡ 48 }
+    ensures { result ≡ nat_lt (nth_cell (cells_of row.now.bytes) part).phase ((B.family bank.now).part part).counts.phases }
 {
     bank.has_phase(part, phase(row, part))
 }
@@ -31,10 +30,6 @@ fn exists<B: Bank>(bank: &B, row: &Row, part: u8) -> bool
 pub(crate) fn all_exist<B: Bank>(bank: &B, row: &Row) -> bool
     ensures { result ≡ phases_exist (scheme (B.family bank.now) no_wiring).parts (take (B.family bank.now).count (cells_of row.now.bytes)) }
 {
-    for part in 0..bank.part_count() {
-        if !exists(bank, row, part) {
-            return false;
-        }
-    }
-    true
+    know_row(row);
+    (0..bank.part_count()).all(|part| exists(bank, row, part))
 }

@@ -4,6 +4,5 @@ pub mod Codec
 pub mod Walks
 pub mod Sets
 pub mod Judged
-pub mod Typed
 pub mod Told
 pub mod Refused

@@ -12,8 +12,8 @@ ghost use Rattle.reasons.specs.Leaving.{LeadsOut, LeavesBy, Leaves};
 use bank::interface::Bank;
 use book::row::Row;
 use fddevs::scheme::Move;
-use judging::known::know_row;
 use lookup::rows::Rows;
+use stepping::known::know_row;
 use stepping::steps::Scheme;
 use wiring::wires::Wiring;
 

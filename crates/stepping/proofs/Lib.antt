@@ -5,3 +5,4 @@ pub mod Feeding
 pub mod Moves
 pub mod Fronts
 pub mod Written
+pub mod Typed

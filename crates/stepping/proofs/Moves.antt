@@ -1,6 +1,10 @@
 -- The moves of a scheme on its cells.
-use Rattle.std.proofs.Common.{◌≡◌, ℕ, ◌+◌, ◌-◌, ◌<◌, ◌≤◌, Bool, true, false, cond, ◌&&◌, eqb, map, length, take, drop, set, replicate, sym, refl, ap, ◌∙◌, ⊎_elim, arith}
-use Rattle.std.proofs.lemmas.List.{length-set, length-map, length-append, length-replicate, get_or-map, get_or-set_same, get_or-set_other, get_or_append_left, get_or-append_right, get_or-replicate, at_drop_more, at_drop_all}
+use Rattle.std.proofs.Common.{◌≡◌, ℕ, ◌-◌, ◌<◌, ◌≤◌, Bool, true, false, cond, eqb, map, length, take, set, replicate, sym, refl, ap, ◌∙◌, ⊎_elim, arith}
+use Rattle.std.proofs.lemmas.List.{length-set, length-map, length-append, length-replicate, get_or-map, get_or-set_same, get_or-set_other, get_or_append_left, get_or-append_right, get_or-replicate, get_or-take, get_or_default, length-take-le}
+use Rattle.std.specs.List.{All}
+use Rattle.std.proofs.lemmas.Bool.Decides.{same_from_decides, Decides-like, Decides-by_and}
+use Rattle.fddevs.specs.Vetting.{all_below}
+use Rattle.fddevs.proofs.Vetting.{below_true, true_below}
 use Rattle.std.proofs.lemmas.Bool.{cases_eq, cond-true, cond-false, eq-eqb, ne_eqb}
 use Rattle.fddevs.specs.declared.part.Cell.{Cell}
 use Rattle.fddevs.specs.declared.part.Output.{Output}
@@ -13,7 +17,7 @@ use Rattle.fddevs.specs.Scheme.{Wiring, start, scheme, heard, each}
 use Rattle.fddevs.proofs.Cells.{of_fresh}
 use Rattle.wiring.specs.Meaning.{no_wiring}
 use Rattle.stepping.specs.Stepping.{on_first, no_cell, nth_cell, machine, start_cells, cells_after, cells_allow, cells_given}
-use Rattle.stepping.proofs.Made.{Made, made_once, made_all, scheme_made, scheme_at, scheme_past, count_parts, part_at, front_cell, front_length, front_bound}
+use Rattle.stepping.proofs.Made.{Made, made_once, made_all, scheme_made, scheme_at, scheme_past, count_parts, part_at}
 
 -- the cell in which a part begins
 abbrev pub begun : Family → ℕ → Cell
@@ -131,28 +135,20 @@ module _ (F : Family) (W : Wiring) (p : ℕ) (cs : Row) where
       (moves_made Silent)
       ∙ ap moves_all (sym (scheme_past (λ q c. q.output c.phase) Silent F W cs p h))
 
--- every one of the first cells, one after another
-module _ (f : Cell → Bool) (n : ℕ) (cs : Row) (k : ℕ) where
-  this_and_rest : k < n → k < length cs →
-      every f (drop k (take n cs)) ≡ (f (nth_cell cs k) && every f (drop (k + 1) (take n cs)))
-  this_and_rest h l =
-      at_drop_more (every f) (take n cs) k no_cell (front_length n cs k h l)
-      ∙ ap (λ c. f c && every f (drop (k + 1) (take n cs))) (front_cell n cs k h)
+-- a test of every one of the first cells
+module _ (f : Cell → Bool) (n : ℕ) (cs : Row) (l : n ≤ length cs) where
+  listed : ((k : ℕ) → k < n → f (nth_cell cs k) ≡ true) → All (λ c. f c ≡ true) (take n cs)
+  listed h k d m =
+      let b : k < n = omega (arith, length-take-le n cs l) in
+      rw (get_or-take n cs k d b) (rw (get_or_default cs k d no_cell (omega arith)) (h k b))
 
-  -- the cell that was read
-  module _ (c : Cell) (was : c ≡ nth_cell cs k) (h : k < n) (l : k < length cs) where
-    this_alone : (b : Bool) → b ≡ f c → every f (drop k (take n cs)) ≡ (b && every f (drop (k + 1) (take n cs)))
-    this_alone b e = this_and_rest h l ∙ ap (λ a. a && every f (drop (k + 1) (take n cs))) (ap f (sym was) ∙ sym e)
+  each_of : All (λ c. f c ≡ true) (take n cs) → (k : ℕ) → k < n → f (nth_cell cs k) ≡ true
+  each_of h k b = rw (sym (get_or-take n cs k no_cell b)) (h k no_cell (omega (arith, length-take-le n cs l)))
 
-    pub every_more : true ≡ f c → every f (drop k (take n cs)) ≡ every f (take n cs) →
-        every f (drop (k + 1) (take n cs)) ≡ every f (take n cs)
-    every_more e i = sym (this_alone true e) ∙ i
-
-    pub every_fails : false ≡ f c → every f (drop k (take n cs)) ≡ every f (take n cs) → false ≡ every f (take n cs)
-    every_fails e i = sym (this_alone false e) ∙ i
-
-  pub every_done : n ≤ k → every f (drop k (take n cs)) ≡ every f (take n cs) → true ≡ every f (take n cs)
-  every_done h i = sym (at_drop_all (every f) (take n cs) k (omega (arith, front_bound n cs))) ∙ i
+  pub every_below : all_below (λ k. f (nth_cell cs k)) n ≡ every f (take n cs)
+  every_below =
+      same_from_decides _ _ (Decides-like _ listed each_of (true_below _ n, below_true _ n))
+      (Decides-by_and f (λ c. f c ≡ true) (every f) (λ _. (λ e. e, λ e. e)) refl (λ _ _. refl) (take n cs))
 
 -- whether a part is due, by the cell that was read
 module _ (F : Family) (cs : Row) (p : ℕ) where

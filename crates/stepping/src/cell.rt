@@ -12,7 +12,6 @@ pub(crate) fn read(row: &Row, part: u8) -> Cell
     requires { part < 16 }
     ensures value { result ≡ nth_cell (cells_of row.now.bytes) part }
     ensures short { Short result.remaining }
-    ensures whole { length row.now.bytes ≡ 48 }
 {
     let at = 3 * usize::from(part);
     let ticks = u16::from_be_bytes([row.bytes[at + 1], row.bytes[at + 2]]);

@@ -2,5 +2,6 @@
 #![tactic(auto)]
 
 pub mod cell;
+pub mod known;
 mod part;
 pub mod steps;

@@ -8,6 +8,7 @@ ghost use Rattle.stepping.specs.RowBytes.{cells_of};
 ghost use Rattle.stepping.specs.Stepping.{start_cells, cells_after, cells_allow, fed, cells_given};
 
 use crate::cell::{put, read};
+use crate::known::know_row;
 use crate::part::{Part, after_delay, is_spent};
 use bank::interface::Bank;
 use book::row::Row;
@@ -76,6 +77,7 @@ impl<B: Bank> Scheme<'_, B> {
                 bank: self.bank,
                 number: part,
             };
+            know_row(row);
             let before = read(row, part);
             if let Output::Sends(number) = sender.output(before.phase) {
                 self.send(part, number, row);
@@ -98,19 +100,16 @@ impl<B: Bank> Scheme<'_, B> {
     pub fn is_due(&self, row: &Row, part: u8) -> bool
         ensures { result ≡ cells_allow (B.family self.now.bank.now) no_wiring (cells_of row.now.bytes) (Internal part) }
     {
+        know_row(row);
         part < self.bank.part_count() && is_spent(read(row, part).remaining)
     }
 
-    // Whether every part lasts for d ticks. A loop and not `all`: that a row has 16 cells is known where one is read.
+    // Whether every part lasts for d ticks.
     fn all_last(&self, row: &Row, d: u32) -> bool
         ensures { result ≡ every (λ c. lasts d c.remaining) (take (B.family self.now.bank.now).count (cells_of row.now.bytes)) }
     {
-        for part in 0..self.bank.part_count() {
-            if !read(row, part).remaining.lasts(u64::from(d)) {
-                return false;
-            }
-        }
-        true
+        know_row(row);
+        (0..self.bank.part_count()).all(|part| read(row, part).remaining.lasts(u64::from(d)))
     }
 
     // Whether d ticks may pass.

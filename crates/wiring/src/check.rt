@@ -1,7 +1,6 @@
 // The tests that a wiring file has to pass.
 ghost use Rattle.std.specs.Prelude.{◌≡◌, ◌<◌, ◌≤◌, true, length};
-ghost use Rattle.fddevs.specs.Vetting.{seek};
-ghost use Rattle.wiring.specs.File.{wire_count, is_whole, is_within};
+ghost use Rattle.wiring.specs.File.{wire_count, is_whole};
 ghost use Rattle.wiring.specs.Wires.{same_start, in_order, is_apart, ascends, nth};
 ghost use Rattle.wiring.specs.Reading.{source_exists, target_exists, has_ends, keeps, breach, kept, head_vetting, wires_vetting, draft, Ready};
 
@@ -22,17 +21,9 @@ fn is_whole(file: &[u8]) -> bool
 }
 
 pub(crate) fn wire_count(file: &[u8]) -> usize
-    requires { 5 ≤ length file.now }
     ensures { result ≡ wire_count file.now }
 {
-    (file.len() - 5) / 4
-}
-
-fn is_within(file: &[u8]) -> bool
-    requires { 5 ≤ length file.now }
-    ensures { result ≡ is_within file.now }
-{
-    file[3] <= 32 && file[4] <= 32 && wire_count(file) <= 256
+    file.len().saturating_sub(5) / 4
 }
 
 pub(crate) fn check_head(file: &[u8]) -> Result<(), Refusal>
@@ -44,10 +35,11 @@ pub(crate) fn check_head(file: &[u8]) -> Result<(), Refusal>
     if file[0] != 1 {
         return Err(Refusal::Version(Layer::Wiring));
     }
-    if !is_within(file) {
-        return Err(Refusal::WiringCounts);
+    if file[3] <= 32 && file[4] <= 32 && wire_count(file) <= 256 {
+        Ok(())
+    } else {
+        Err(Refusal::WiringCounts)
     }
-    Ok(())
 }
 
 fn is_same_start(a: Wire, b: Wire) -> bool
@@ -138,18 +130,11 @@ impl<B: Bank> Draft<'_, B> {
         }
     }
 
-    fn first_breach(&self, rule: Rule) -> Option<usize>
-        requires { Ready rule self.now.wires.now }
-        ensures { result ≡ seek (keeps rule (B.Bank.family self.now.bank.now) (draft self.now.outer self.now.wires.now)) 0 (length self.now.wires.now) }
-    {
-        (0..self.wires.len()).find(|k| !self.keeps(rule, *k))
-    }
-
     fn check_rule(&self, rule: Rule) -> Result<(), Refusal>
         requires { Ready rule self.now.wires.now }
         ensures { result ≡ kept rule (B.Bank.family self.now.bank.now) (draft self.now.outer self.now.wires.now) }
     {
-        match self.first_breach(rule) {
+        match (0..self.wires.len()).find(|k| !self.keeps(rule, *k)) {
             None => Ok(()),
             Some(wire) => Err(rule.refusal(wire)),
         }

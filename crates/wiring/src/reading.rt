@@ -25,7 +25,6 @@ fn wire(file: &[u8], at: usize) -> Wire
 
 // Wire k of the file, or what fills the table behind its wires.
 fn nth_wire(file: &[u8], k: usize) -> Wire
-    requires { 5 ≤ length file.now }
     ensures { k < wire_count file.now → result ≡ wire_at file.now (5 + 4 * k) }
 {
     if k < wire_count(file) {
@@ -36,8 +35,7 @@ fn nth_wire(file: &[u8], k: usize) -> Wire
 }
 
 fn table(file: &[u8]) -> [Wire; 256]
-    requires long { 5 ≤ length file.now }
-    requires few { wire_count file.now ≤ 256 }
+    requires { wire_count file.now ≤ 256 }
     ensures { take (wire_count file.now) result ≡ (held file.now).wires }
 {
     array::from_fn(|k| nth_wire(file, k))

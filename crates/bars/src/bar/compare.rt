@@ -5,22 +5,15 @@ ghost use Rattle.bars.specs.Meaning.{conditions_of};
 use crate::bar::Bar;
 use crate::condition::{Condition, NO_CONDITION};
 
-fn filled(conditions: &[Condition]) -> [Condition; 4]
-    requires { length conditions.now ≤ 4 }
-    ensures { take (length conditions.now) result ≡ conditions.now }
-{
-    let mut table = [NO_CONDITION; 4];
-    table[..conditions.len()].copy_from_slice(conditions);
-    table
-}
-
 impl Bar {
     pub(crate) fn of(conditions: &[Condition]) -> Bar
         requires { length conditions.now ≤ 4 }
         ensures { conditions_of result ≡ conditions.now }
     {
+        let mut table = [NO_CONDITION; 4];
+        table[..conditions.len()].copy_from_slice(conditions);
         Bar {
-            table: filled(conditions),
+            table,
             count: conditions.len(),
         }
     }

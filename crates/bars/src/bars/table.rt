@@ -22,14 +22,6 @@ impl Bars {
         &self.table[..count.min(16)]
     }
 
-    fn set(&mut self, count: usize, conditions: &[Condition])
-        requires room { count < 16 }
-        requires few { length conditions.now ≤ 4 }
-        ensures { bars_of (count + 1) self.new ≡ bars_of count self.old ++ (conditions.now ∷ []) }
-    {
-        self.table[count] = Bar::of(conditions);
-    }
-
     // Puts a bar after the first `count`, where the table has room for it and it has at most four conditions.
     pub fn put(&mut self, count: usize, conditions: &[Condition])
         ensures put { count < 16 → length conditions.now ≤ 4 → bars_of (count + 1) self.new ≡ bars_of count self.old ++ (conditions.now ∷ []) }
@@ -37,7 +29,7 @@ impl Bars {
         ensures too_many { 4 < length conditions.now → self.new ≡ self.old }
     {
         if count < 16 && conditions.len() <= 4 {
-            self.set(count, conditions);
+            self.table[count] = Bar::of(conditions);
         }
     }
 }

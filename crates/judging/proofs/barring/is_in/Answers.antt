@@ -14,8 +14,8 @@ returns-then-condition-part_count g c =
     let few = (g.met.B.Bank.limits c.args.bank.now).few in
     let bs = c.args.row.now.bytes in
     let here : c.args.condition.part < n = omega arith in
-    let there : c.args.condition.part < length (cells_of bs) = omega (arith, sixteen_cells bs c.phase.ensures.whole) in
-    ap (λ k. eqb k c.args.condition.phase) c.phase.ensures.value
+    let there : c.args.condition.part < length (cells_of bs) = omega (arith, sixteen_cells bs c.know_row.ensures.whole) in
+    ap (λ k. eqb k c.args.condition.phase) c.phase.ensures
     ∙ sym (in_there n (cells_of bs) c.args.condition.part c.args.condition.phase here there)
 
 pub returns-else-condition-part_count : goal.returns-else-condition-part_count

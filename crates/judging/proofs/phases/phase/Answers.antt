@@ -10,9 +10,5 @@ returns c =
     let bs = c.args.row.now.bytes in
     let whole : length bs ≡ 48 = search rules in
     let p = c.from.result in
-    record {
-      value =
-          sym (ap (λ (d : Cell). d.phase) (read_cell p bs (omega (arith, c.from.ensures, c.requires))))
-          ∙ ap (λ k. (nth_cell (cells_of bs) k).phase) c.from.ensures;
-      whole = whole;
-    }
+    sym (ap (λ (d : Cell). d.phase) (read_cell p bs (omega (arith, c.from.ensures, c.requires))))
+    ∙ ap (λ k. (nth_cell (cells_of bs) k).phase) c.from.ensures

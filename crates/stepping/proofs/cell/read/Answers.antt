@@ -22,5 +22,4 @@ returns c =
       short =
           let P : Span → Type 0 = Short in
           subst P (sym c.from.ensures) (short_read c.from_be_bytes-ticks.result (search rules));
-      whole = search rules;
     }

@@ -12,7 +12,7 @@ returns c =
     let n = wire_count f in
     let t = c.from_fn.result in
     let made = c.from_fn.ensures.items in
-    let few : n ≤ 256 = c.requires.few in
+    let few : n ≤ 256 = c.requires in
     let fits : n ≤ length t = omega (arith, made.long) in
     fill_by_all (λ (k : ℕ). wire_at f (5 + 4 * k)) (take n t) n no_wire (length-take-le n t fits)
     (λ k h. get_or-take n t k no_wire h ∙

@@ -8,7 +8,7 @@ use Rattle.proof_rules.specs.Faults.{Fault, vetting_of}
 use Rattle.proof_rules.specs.Laws.{ByTheRules}
 use Rattle.proof_rules.proofs.Judged.{judged_by_the_rules}
 use Rattle.proof_rules.proofs.Refused.{judging_tells}
-use Rattle.proof_rules.proofs.Typed.{typed_bytes}
+use Rattle.stepping.proofs.Typed.{typed_bytes}
 use Rattle.examination.specs.Meaning.{held}
 use Rattle.examination.proofs.Led.{leads_by}
 use Rattle.examination.proofs.examination.Examination.offer.Goals as goal

@@ -1,5 +1,5 @@
 use Rattle.history.specs.History.{wire_call}
-use Rattle.proof_rules.proofs.Typed.{typed_bytes}
+use Rattle.stepping.proofs.Typed.{typed_bytes}
 use Rattle.examination.proofs.Led.{leads_by}
 use Rattle.examination.proofs.examination.Examination.wire.Goals as goal
 

@@ -1,7 +1,7 @@
 use Rattle.std.proofs.Common.{◌≡◌, ◌<◌, get_or, Ok, sym, ap, ◌∙◌, subst, rules}
 use Rattle.lookup.specs.Shape.{shape_of}
 use Rattle.proof_rules.specs.Judging.{order_vetting}
-use Rattle.proof_rules.proofs.Typed.{typed_bytes}
+use Rattle.stepping.proofs.Typed.{typed_bytes}
 use Rattle.judging.proofs.Members.{some_of, set_of, same_body}
 use Rattle.judging.proofs.judging.Examined.vet_rows.Goals as goal
 

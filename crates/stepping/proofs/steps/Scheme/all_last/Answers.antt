@@ -1,36 +1,18 @@
-use Rattle.std.proofs.Common.{◌<◌, length, ap, ◌∙◌, arith}
+use Rattle.std.proofs.Common.{◌≤◌, length, ◌∙◌, arith, rules}
+use Rattle.fddevs.proofs.Ranges.{all_of_range}
 use Rattle.fddevs.specs.Rows.{lasts}
 use Rattle.stepping.specs.RowBytes.{cells_of}
+use Rattle.stepping.specs.Stepping.{nth_cell}
 use Rattle.stepping.proofs.Bytes.{sixteen_cells}
-use Rattle.stepping.proofs.Moves.{every_more, every_fails, every_done}
+use Rattle.stepping.proofs.Moves.{every_below}
 use Rattle.stepping.proofs.steps.Scheme.all_last.Goals as goal
-
-pub read-requires : goal.read-requires
-read-requires g c = omega (arith, (g.met.B.Bank.limits c.args.self.now.bank.now).few)
-
-pub returns-then-not-lasts : goal.returns-then-not-lasts
-returns-then-not-lasts g c =
-    let few = (g.met.B.Bank.limits c.args.self.now.bank.now).few in
-    let cs = cells_of c.args.row.now.bytes in
-    let there : c.loop-part.part < length cs =
-    omega (arith, sixteen_cells c.args.row.now.bytes c.read.ensures.whole) in
-    every_fails (λ d. lasts c.args.d d.remaining) (g.B.Bank.family c.args.self.now.bank.now).count cs
-    c.loop-part.part c.read.result c.read.ensures.value (omega arith) there
-    (c.if-not-lasts.ensures ∙ ap (λ e. lasts e c.read.result.remaining) c.from.ensures)
-    c.loop-part.invariant
-
-pub loop-part-preserved : goal.loop-part-preserved
-loop-part-preserved g c =
-    let few = (g.met.B.Bank.limits c.args.self.now.bank.now).few in
-    let cs = cells_of c.args.row.now.bytes in
-    let there : c.loop-part.part < length cs =
-    omega (arith, sixteen_cells c.args.row.now.bytes c.read.ensures.whole) in
-    every_more (λ d. lasts c.args.d d.remaining) (g.B.Bank.family c.args.self.now.bank.now).count cs
-    c.loop-part.part c.read.result c.read.ensures.value (omega arith) there
-    (c.if-not-lasts.ensures ∙ ap (λ e. lasts e c.read.result.remaining) c.from.ensures)
-    c.loop-part.invariant
 
 pub returns : goal.returns
 returns g c =
-    every_done (λ d. lasts c.args.d d.remaining) (g.B.Bank.family c.args.self.now.bank.now).count
-    (cells_of c.args.row.now.bytes) c.loop-part.part (omega arith) c.loop-part.invariant
+    let n = (g.B.Bank.family c.args.self.now.bank.now).count in
+    let few = (g.met.B.Bank.limits c.args.self.now.bank.now).few in
+    let cs = cells_of c.args.row.now.bytes in
+    let long : n ≤ length cs = omega (arith, sixteen_cells c.args.row.now.bytes c.know_row.ensures.whole) in
+    all_of_range (λ k. lasts c.args.d (nth_cell cs k).remaining) n _ _ _ (search rules) c.all.ensures.ran
+    (λ k b q h. search rules)
+    ∙ every_below (λ x. lasts c.args.d x.remaining) n cs long

@@ -33,7 +33,7 @@ returns-after-output g c =
     let cells : Bytes → Row = λ r. cells_of r.bytes in
     let few = (g.met.B.Bank.limits c.args.self.now.bank.now).few in
     let here : p < F.count = omega arith in
-    let there : p < length cs = omega (arith, sixteen_cells c.args.row.now.bytes c.read-before.ensures.whole) in
+    let there : p < length cs = omega (arith, sixteen_cells c.args.row.now.bytes c.know_row.ensures.whole) in
     elim c.match-output.branch [
       | in-Sends w ↦
           sending_step F W p cs c.read-before.result c.after_internal.result c.read-before.ensures.value

@@ -10,7 +10,7 @@ returns-then-part-part_count g c =
     let few = (g.met.B.Bank.limits c.args.self.now.bank.now).few in
     let cs = cells_of c.args.row.now.bytes in
     let there : c.args.part < length cs =
-    omega (arith, sixteen_cells c.args.row.now.bytes c.read.ensures.whole) in
+    omega (arith, sixteen_cells c.args.row.now.bytes c.know_row.ensures.whole) in
     c.is_spent.ensures
     ∙ due_here (g.B.Bank.family c.args.self.now.bank.now) cs c.args.part c.read.result c.read.ensures.value
     (omega arith) there

@@ -1,6 +1,6 @@
 // What the type of a record says of its bytes, made known to a caller's proof. Nothing of it is left when compiled.
 ghost use Rattle.std.specs.Prelude.{◌≡◌, length};
-ghost use Rattle.proof_rules.specs.Files.{Bytes};
+ghost use Rattle.stepping.specs.RowBytes.{Bytes};
 
 use book::row::Row;
 

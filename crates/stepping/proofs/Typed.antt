@@ -1,6 +1,6 @@
 -- What a slice of bytes holds.
 use Rattle.std.proofs.Common.{ℕ, suc, List, [], ◌∷◌, get_or, w8, Fits}
-use Rattle.proof_rules.specs.Files.{Bytes}
+use Rattle.stepping.specs.RowBytes.{Bytes}
 
 pub typed_bytes : (xs : List ℕ) → ((i : ℕ) → Fits w8 (get_or xs i 0)) → Bytes xs
 typed_bytes [] h = tt
