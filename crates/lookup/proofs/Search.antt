@@ -1,6 +1,7 @@
 -- The steps of a search among rows that rise.
 use Rattle.std.proofs.Common.{◌≡◌, ℕ, ◌+◌, ◌<◌, ◌≤◌, List, Some, None, Less, Equal, Greater, sym, ap, ◌∙◌, subst, inl, inr, arith}
 use Rattle.std.proofs.lemmas.Bool.{cases_lt}
+use Rattle.std.specs.Cmp.Lexicographic.{nat_list_cmp_total}
 use Rattle.book.specs.Records.{byte_order}
 use Rattle.book.specs.Orders.{bytes_total}
 use Rattle.book.proofs.Places.{above, below}
@@ -28,8 +29,8 @@ module _ (w : ℕ) (body : List ℕ) (n : ℕ) (x : List ℕ) where
     if_greater h up = record {
       lower = (b up).lower;
       higher = λ k l u. elim (cases_lt mid k) [
-        | inl v ↦ above bytes_total x (stretch w body k)
-            (bytes_total.passes x (stretch w body mid) (stretch w body k) (below bytes_total (stretch w body mid) x (sym h)) (up mid k v u))
+        | inl v ↦ above nat_list_cmp_total x (stretch w body k)
+            (bytes_total.passes x (stretch w body mid) (stretch w body k) (below nat_list_cmp_total (stretch w body mid) x (sym h)) (up mid k v u))
         | inr v ↦ (let e : mid ≡ k = omega arith in subst (λ i. byte_order (stretch w body i) x ≡ Greater) e (sym h))
       ];
     }
