@@ -3,7 +3,7 @@ use lib.Seq.{paste}
 use Rattle.std.specs.List.{flat_map}
 use Rattle.std.proofs.lemmas.List.{take_all}
 use Rattle.set_file.specs.Layout.{front}
-use Rattle.set_file.proofs.Rows.{one_more}
+use Rattle.set_file.proofs.Numbered.{one_more}
 use Rattle.set_file.proofs.Written.{row_more}
 use Rattle.set_file.proofs.writing.write_rows.Goals as goal
 
