@@ -12,6 +12,7 @@ ghost use Rattle.judging.specs.Set.{IsSet};
 use bank::interface::Bank;
 use book::row::Row;
 use fddevs::scheme::Move;
+use lookup::finding::find;
 use lookup::rows::Rows;
 use stepping::steps::{allows, step};
 use wiring::wires::Wiring;
@@ -38,7 +39,7 @@ pub(crate) fn is_among<B: Bank>(bank: &B, rows: &Rows, row: &Row, hint: &mut usi
     ensures { result ≡ among (rows_in (B.family bank.now).count rows.now.body.now) (take (B.family bank.now).count (cells_of row.now.bytes)) }
 {
     know_row(row);
-    match rows.find(row, *hint) {
+    match find(rows, row, *hint) {
         Some(place) => {
             *hint = place;
             true

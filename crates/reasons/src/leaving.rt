@@ -11,6 +11,7 @@ ghost use Rattle.reasons.specs.Leaving.{LeadsOut, OuterLeave, InternalLeave, Lea
 use bank::interface::Bank;
 use book::row::Row;
 use fddevs::scheme::Move;
+use lookup::finding::find;
 use lookup::rows::Rows;
 use stepping::steps::{allows, step};
 use wiring::wires::Wiring;
@@ -49,7 +50,7 @@ fn led_out<B: Bank>(bank: &B, wiring: &Wiring, rows: &Rows, row: &Row, a: Move) 
     let mut next = *row;
     step(bank, wiring, a, &mut next);
     know_row(&next);
-    match rows.find(&next, 0) {
+    match find(rows, &next, 0) {
         Some(_) => None,
         None => Some(next),
     }
