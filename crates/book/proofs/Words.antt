@@ -98,11 +98,3 @@ eight_value xs e =
     let at = more xs 8 e in
     ap (number_from_digits 256) (sym (take_all 8 xs (omega arith)))
     ∙ omega (arith, at 0 (omega arith), at 1 (omega arith), at 2 (omega arith), at 3 (omega arith), at 4 (omega arith), at 5 (omega arith), at 6 (omega arith), at 7 (omega arith))
-
--- the number that four bytes write
-pub four_value : (xs : List ℕ) → length xs ≡ 4 →
-    number_from_digits 256 xs ≡ get_or xs 0 0 * 16777216 + get_or xs 1 0 * 65536 + get_or xs 2 0 * 256 + get_or xs 3 0
-four_value xs e =
-    let at = more xs 4 e in
-    ap (number_from_digits 256) (sym (take_all 4 xs (omega arith)))
-    ∙ omega (arith, at 0 (omega arith), at 1 (omega arith), at 2 (omega arith), at 3 (omega arith))

@@ -14,7 +14,7 @@ pub(crate) const KIND: u8 = 1;
 pub(crate) fn some_parts(n: u8) -> bool
     ensures { result ≡ some_parts n }
 {
-    1 <= n && n <= 16
+    (1..=16).contains(&n)
 }
 
 // How many bytes a row of n parts has.
@@ -28,7 +28,7 @@ pub(crate) fn width(n: u8) -> usize
 pub(crate) fn body_fits(length: usize) -> bool
     ensures { result ≡ body_fits length }
 {
-    1 <= length && length <= 4_194_304
+    (1..=4_194_304).contains(&length)
 }
 
 // What a file says of itself in its first two bytes, and the body behind its head.

@@ -102,10 +102,9 @@ fn write_rows(width: usize, rows: &[Row], out: &mut [u8])
     ensures long { length (flat_map (front width) rows.now) ≡ length rows.now * width }
     ensures after { out.new ≡ paste out.old 6 (flat_map (front width) rows.now) (length rows.now * width) }
 {
-    let mut at = 6;
-    for row in rows {
-        out[at..at + width].copy_from_slice(&row.bytes[0..width]);
-        at += width;
+    for (k, row) in rows.iter().enumerate() {
+        let at = 6 + k * width;
+        out[at..at + width].copy_from_slice(&row.bytes[..width]);
     }
 }
 
@@ -127,7 +126,7 @@ fn write_all(n: u8, rows: &[Row], out: &mut [u8]) -> Result<usize, Refusal>
 fn first(rows: &[Row], count: usize) -> &[Row]
     ensures { result.now ≡ take count rows.now }
 {
-    &rows[0..count.min(rows.len())]
+    rows.get(..count).unwrap_or(rows)
 }
 
 // Writes the set file of the first `count` rows, all if the count is larger, each as the bytes of its first n parts.
