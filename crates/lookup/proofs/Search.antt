@@ -4,7 +4,7 @@ use Rattle.std.proofs.lemmas.Bool.{cases_lt}
 use Rattle.std.specs.Cmp.Lexicographic.{nat_list_cmp_total}
 use Rattle.book.specs.Records.{byte_order}
 use Rattle.book.specs.Orders.{bytes_total}
-use Rattle.book.proofs.Places.{above, below}
+use Rattle.book.proofs.Places.{above, below, clash}
 use Rattle.book.specs.declared.row.Row.{Row}
 use Rattle.set_file.specs.Layout.{front, stretch}
 use Rattle.set_file.specs.declared.rows.Rows.{Rows}
@@ -53,8 +53,8 @@ module _ (rows : Rows) (row : Row) where
   nowhere low high b m k l e =
       let t : at k ≡ Equal = ap (λ y. byte_order y x) e ∙ bytes_total.itself x in
       elim (cases_lt k low) [
-        | inl h ↦ (let s = b.lower k h in let z : ◌≡◌ {A = ℕ} 0 1 = cc in omega arith)
-        | inr h ↦ (let s = b.higher k (omega arith) l in let z : ◌≡◌ {A = ℕ} 0 1 = cc in omega arith)
+        | inl h ↦ omega (arith, clash t (b.lower k h))
+        | inr h ↦ omega (arith, clash t (b.higher k (omega arith) l))
       ]
 
   pub found_here : (k : ℕ) → k < n → Equal ≡ at k → IsFound rows row (Some k)
