@@ -1,5 +1,5 @@
--- Putting a record into a list that is kept is right.
-use Rattle.std.proofs.Common.{◌≡◌, ℕ, ◌+◌, ◌-◌, ◌<◌, ◌≤◌, min, Bool, ltb, ◌⊎◌, List, ◌++◌, length, get_or, take, drop, Ok, Err, Result, Ordering, Less, Equal, sym, refl, ap, ◌∙◌, subst, inl, inr, arith, length-append, le-ltb, lt-ltb}
+-- Putting a record into a list that is kept: what is answered and left, that the list is kept again, and that it is right.
+use Rattle.std.proofs.Common.{◌≡◌, ℕ, ◌+◌, ◌-◌, ◌<◌, ◌≤◌, Bool, ltb, ◌⊎◌, List, ◌++◌, length, get_or, take, drop, Ok, Err, Result, Ordering, Less, Equal, sym, refl, ap, ◌∙◌, subst, inl, inr, arith, length-append, le-ltb, lt-ltb}
 use Rattle.std.specs.List.{insert, ContainsAt as Has}
 use Rattle.std.proofs.lemmas.List.{get_or-take, length-take-le, get_or_append_left, take_at, drop_at}
 use Rattle.std.proofs.lemmas.List.Edits.{length-insert, get_or-insert_below, get_or-insert_at, get_or-insert_above}
@@ -8,8 +8,9 @@ use Rattle.fddevs.specs.declared.refusal.Refusal.TheVariants.{NoRoom}
 use Rattle.book.specs.declared.keeping.Put.TheVariants.{Added, Present}
 use Rattle.book.specs.Order.{TotalOrder, Ascending, Kept}
 use Rattle.book.specs.Place.{place}
-use Rattle.book.specs.Putting.{Answer, answer_at, list_at, answer, list_after, count_after, Puts, PutsRight}
-use Rattle.book.proofs.Places.{below, Stands, Belongs, Found, found}
+use Rattle.book.specs.Putting.{answer_at, list_at, count_after, PutsRight}
+use Rattle.std.specs.Cmp.{IsTotalOrder}
+use Rattle.book.proofs.Places.{below, clash, Stands, Belongs, Found, found}
 
 -- what a list has after an insertion
 module _ {K : Type 0} (zs : List K) (i : ℕ) (x : K) (l : i ≤ length zs) where
@@ -62,40 +63,9 @@ module _ {K : Type 0} (zs : List K) (i : ℕ) (x : K) (l : i ≤ length zs) wher
           ]
         ]
 
-module _ {K : Type 0} {cmp : K → K → Ordering} (total : TotalOrder cmp) (x : K) (xs : List K) (n : ℕ) (kept : Kept cmp xs n) where
+module _ {K : Type 0} {cmp : K → K → Ordering} (total : IsTotalOrder cmp) (x : K) (xs : List K) (n : ℕ) (kept : Kept cmp xs n) where
   front_length : length (take n xs) ≡ n
   front_length = length-take-le n xs kept.within
-
-  stands : (i : ℕ) → Stands x xs n i → Has (take n xs) x
-  stands i s = let m = front_length in (i, omega (arith, s.within), λ d. get_or-take n xs i d s.within ∙ s.here d)
-
-  -- a record that belongs somewhere is not there yet
-  new : (i : ℕ) → Belongs cmp x xs n i → Has (take n xs) x → ⊥
-  new i b (k, u, h) =
-      let m = front_length in
-      let e : cmp (get_or xs k x) x ≡ Equal = ap (λ y. cmp y x) (sym (get_or-take n xs k x (omega arith)) ∙ h x) ∙ total.itself x in
-      elim (cases_lt k i) [
-        | inl l ↦ (let f = b.between.lower k x l in let z : ◌≡◌ {A = ℕ} 0 1 = cc in omega arith)
-        | inr l ↦ (let f = b.between.higher k x l (omega arith) in let z : ◌≡◌ {A = ℕ} 0 1 = cc in omega arith)
-      ]
-
-  right_present : (i : ℕ) → Stands x xs n i → PutsRight cmp x xs n (Ok Present) xs n
-  right_present i s = record {
-    present = (λ _. stands i s, λ _. refl);
-    refused = (λ e. absurd (let z : ◌≡◌ {A = ℕ} 0 1 = cc in omega arith), λ h. absurd (h.0 (stands i s)));
-    records = λ y. (inl, λ h. elim h [ inl k ↦ k | inr k ↦ absurd (let e = k.0 in let z : ◌≡◌ {A = ℕ} 0 1 = cc in omega arith) ]);
-    kept = kept;
-    beyond = refl;
-  }
-
-  right_refused : (i : ℕ) → Belongs cmp x xs n i → n ≡ length xs → PutsRight cmp x xs n (Err NoRoom) xs n
-  right_refused i b w = record {
-    present = (λ e. absurd (let z : ◌≡◌ {A = ℕ} 0 1 = cc in omega arith), λ h. absurd (new i b h));
-    refused = (λ _. (new i b, w), λ _. refl);
-    records = λ y. (inl, λ h. elim h [ inl k ↦ k | inr k ↦ absurd (let e = k.0 in let z : ◌≡◌ {A = ℕ} 0 1 = cc in omega arith) ]);
-    kept = kept;
-    beyond = refl;
-  }
 
   module _ (i : ℕ) (b : Belongs cmp x xs n i) (free : n < length xs) where
     abbrev front : List K
@@ -125,8 +95,8 @@ module _ {K : Type 0} {cmp : K → K → Ordering} (total : TotalOrder cmp) (x :
         (λ k d h. ap (λ y. cmp y x) (at_front k d (omega (arith, b.within))) ∙ b.between.lower k d h)
         (λ k d h u. ap (cmp x) (at_front k d (omega arith)) ∙ below total (get_or xs k d) x (b.between.higher k d h (omega arith))))
 
-    whole_kept : Kept cmp whole (n + 1)
-    whole_kept = record {
+    kept_whole : Kept cmp whole (n + 1)
+    kept_whole = record {
       within = let m = longer in omega (arith, length-append front (drop (n + 1) xs));
       ascending = λ p q d h u.
           let m = longer in
@@ -134,22 +104,83 @@ module _ {K : Type 0} {cmp : K → K → Ordering} (total : TotalOrder cmp) (x :
           ∙ front_up p q d h u;
     }
 
-    right_added : PutsRight cmp x xs n (Ok Added) whole (n + 1)
+  -- a record was added where it belongs
+  pub kept_added : (i : ℕ) (ys : List K) → Err i ≡ place cmp x xs n → n < length xs →
+      ys ≡ insert (take n xs) i x ++ drop (n + 1) xs → Kept cmp ys (n + 1)
+  kept_added i ys e free is =
+      subst (λ zs. Kept cmp zs (n + 1)) (sym is) (kept_whole i (subst (Found total x xs n kept) (sym e) (found total x xs n kept)) free)
+
+-- a total order, in the library's words
+in_std : {K : Type 0} {cmp : K → K → Ordering} → TotalOrder cmp → IsTotalOrder cmp
+in_std {K} {cmp} total = record {
+  antisymm = total.turned;
+  trans = total.passes;
+  congr = λ x y z e. ap (λ w. cmp w z) (total.same x y e);
+}
+
+module _ {K : Type 0} {cmp : K → K → Ordering} (total : TotalOrder cmp) (x : K) (xs : List K) (n : ℕ) (kept : Kept cmp xs n) where
+  abbrev order : IsTotalOrder cmp
+  order = in_std total
+
+  stands : (i : ℕ) → Stands cmp x xs n i → Has (take n xs) x
+  stands i s =
+      let m = front_length order x xs n kept in
+      (i, omega (arith, s.within), λ d. get_or-take n xs i d s.within ∙ total.same _ _ (s.here d))
+
+  -- a record that belongs somewhere is not there yet
+  new : (i : ℕ) → Belongs cmp x xs n i → Has (take n xs) x → ⊥
+  new i b (k, u, h) =
+      let m = front_length order x xs n kept in
+      let e : cmp (get_or xs k x) x ≡ Equal = ap (λ y. cmp y x) (sym (get_or-take n xs k x (omega arith)) ∙ h x) ∙ total.itself x in
+      elim (cases_lt k i) [
+        | inl l ↦ omega (arith, clash e (b.between.lower k x l))
+        | inr l ↦ omega (arith, clash e (b.between.higher k x l (omega arith)))
+      ]
+
+  right_present : (i : ℕ) → Stands cmp x xs n i → PutsRight cmp x xs n (Ok Present) xs n
+  right_present i s = record {
+    present = (λ _. stands i s, λ _. refl);
+    refused = (λ e. absurd (let z : ◌≡◌ {A = ℕ} 0 1 = cc in omega arith), λ h. absurd (h.0 (stands i s)));
+    records = λ y. (inl, λ h. elim h [ inl k ↦ k | inr k ↦ absurd (let e = k.0 in let z : ◌≡◌ {A = ℕ} 0 1 = cc in omega arith) ]);
+    kept = kept;
+    beyond = refl;
+  }
+
+  right_refused : (i : ℕ) → Belongs cmp x xs n i → n ≡ length xs → PutsRight cmp x xs n (Err NoRoom) xs n
+  right_refused i b w = record {
+    present = (λ e. absurd (let z : ◌≡◌ {A = ℕ} 0 1 = cc in omega arith), λ h. absurd (new i b h));
+    refused = (λ _. (new i b, w), λ _. refl);
+    records = λ y. (inl, λ h. elim h [ inl k ↦ k | inr k ↦ absurd (let e = k.0 in let z : ◌≡◌ {A = ℕ} 0 1 = cc in omega arith) ]);
+    kept = kept;
+    beyond = refl;
+  }
+
+  module _ (i : ℕ) (b : Belongs cmp x xs n i) (free : n < length xs) where
+    abbrev added : List K
+    added = whole order x xs n kept i b free
+
+    is_front : take (n + 1) added ≡ front order x xs n kept i b free
+    is_front = front_is order x xs n kept i b free
+
+    room : i ≤ length (take n xs)
+    room = inside order x xs n kept i b free
+
+    right_added : PutsRight cmp x xs n (Ok Added) added (n + 1)
     right_added = record {
       present = (λ e. absurd (let z : ◌≡◌ {A = ℕ} 0 1 = cc in omega arith), λ h. absurd (new i b h));
       refused = (λ e. absurd (let z : ◌≡◌ {A = ℕ} 0 1 = cc in omega arith), λ h. absurd (omega (arith, h.1)));
       records = λ y. (
-        λ h. elim (had (take n xs) i x inside y (subst (λ zs. Has zs y) front_is h)) [ inl k ↦ inl k | inr e ↦ inr (refl, e) ],
-        λ h. subst (λ zs. Has zs y) (sym front_is) (has (take n xs) i x inside y (elim h [ inl k ↦ inl k | inr k ↦ inr k.1 ])),
+        λ h. elim (had (take n xs) i x room y (subst (λ zs. Has zs y) is_front h)) [ inl k ↦ inl k | inr e ↦ inr (refl, e) ],
+        λ h. subst (λ zs. Has zs y) (sym is_front) (has (take n xs) i x room y (elim h [ inl k ↦ inl k | inr k ↦ inr k.1 ])),
       );
-      kept = whole_kept;
-      beyond = drop_at front (drop (n + 1) xs) (n + 1) longer;
+      kept = kept_whole order x xs n kept i b free;
+      beyond = drop_at (front order x xs n kept i b free) (drop (n + 1) xs) (n + 1) (longer order x xs n kept i b free);
     }
 
   abbrev Right : Result ℕ ℕ → Bool → Type 0
   Right p free = PutsRight cmp x xs n (answer_at p free) (list_at x xs n p free) (count_after (answer_at p free) n)
 
-  by_place : (p : Result ℕ ℕ) → Found total x xs n kept p → Right p (ltb n (length xs))
+  by_place : (p : Result ℕ ℕ) → Found order x xs n kept p → Right p (ltb n (length xs))
   by_place (Ok i) s = right_present i s
   by_place (Err i) b =
       elim (cases_lt n (length xs)) [
@@ -157,13 +188,6 @@ module _ {K : Type 0} {cmp : K → K → Ordering} (total : TotalOrder cmp) (x :
         | inr l ↦ subst (Right (Err i)) (sym (le-ltb n (length xs) l)) (right_refused i b (omega (arith, kept.within)))
       ]
 
-  defined_right : PutsRight cmp x xs n (answer cmp x xs n) (list_after cmp x xs n) (count_after (answer cmp x xs n) n)
-  defined_right =
-      let e : n ≡ min n (length xs) = omega (arith, kept.within) in
-      subst (λ m. Right (place cmp x xs m) (ltb n (length xs))) e (by_place (place cmp x xs n) (found total x xs n kept))
-
-  pub puts_right : (r : Answer) (ys : List K) (m : ℕ) → Puts cmp x xs n r ys m → PutsRight cmp x xs n r ys m
-  puts_right r ys m p =
-      subst (λ k. PutsRight cmp x xs n r ys k) (sym p.counted)
-      (subst (λ zs. PutsRight cmp x xs n r zs (count_after r n)) (sym p.listed)
-      (subst (λ a. PutsRight cmp x xs n a (list_after cmp x xs n) (count_after a n)) (sym p.answered) defined_right))
+  -- by the place that was found, and whether an entry is free
+  pub right_at : (p : Result ℕ ℕ) → p ≡ place cmp x xs n → (free : Bool) → ltb n (length xs) ≡ free → Right p free
+  right_at p e free f = subst (Right p) f (by_place p (subst (Found order x xs n kept) (sym e) (found order x xs n kept)))

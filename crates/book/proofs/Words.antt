@@ -1,10 +1,11 @@
 -- Numbers of equally many digits are ordered as their digits are.
-use Rattle.std.proofs.Common.{◌≡◌, ℕ, ◌+◌, ◌*◌, ◌<◌, List, [], ◌∷◌, ◌++◌, length, get_or, take, drop, Ordering, Less, Equal, Greater, sym, refl, ap, ◌∙◌, inl, inr, arith, length-take, take_all}
+use Rattle.std.proofs.Common.{◌≡◌, ℕ, zero, suc, replicate, length-append, length-drop, ◌+◌, ◌*◌, ◌<◌, List, [], ◌∷◌, ◌++◌, length, get_or, take, drop, Ordering, Less, Equal, Greater, sym, refl, ap, ◌∙◌, inl, inr, arith, length-take, take_all}
 use Rattle.std.specs.Ordering.{nat_cmp, ordering_then, MatchOrdering}
 use Rattle.std.specs.Cmp.{nat_cmp_is}
 use Rattle.std.specs.Int.Digits.{number_from_digits, number_from_digits_after, AllBelowBase}
-use Rattle.std.proofs.lemmas.Int.Digits.{number_more}
-use Rattle.std.proofs.lemmas.List.{take-append-drop}
+use Rattle.std.proofs.lemmas.Int.Digits.{number_more, number_after_append}
+use Rattle.std.proofs.lemmas.List.{take-append-drop, append-nil, nil_from_length}
+use borrow.Rule.Slice.PartMut.{put_mid, post_of}
 use Rattle.std.proofs.lemmas.Bool.{cases_lt}
 use Rattle.book.specs.Records.{byte_order}
 use Rattle.book.specs.Words.{Word}
@@ -99,10 +100,32 @@ eight_value xs e =
     ap (number_from_digits 256) (sym (take_all 8 xs (omega arith)))
     ∙ omega (arith, at 0 (omega arith), at 1 (omega arith), at 2 (omega arith), at 3 (omega arith), at 4 (omega arith), at 5 (omega arith), at 6 (omega arith), at 7 (omega arith))
 
--- the number that four bytes write
-pub four_value : (xs : List ℕ) → length xs ≡ 4 →
-    number_from_digits 256 xs ≡ get_or xs 0 0 * 16777216 + get_or xs 1 0 * 65536 + get_or xs 2 0 * 256 + get_or xs 3 0
-four_value xs e =
-    let at = more xs 4 e in
-    ap (number_from_digits 256) (sym (take_all 4 xs (omega arith)))
-    ∙ omega (arith, at 0 (omega arith), at 1 (omega arith), at 2 (omega arith), at 3 (omega arith))
+-- zeros in front change no number
+zeros_first : (a n : ℕ) → number_from_digits_after 256 0 (take {A = ℕ} a (replicate n 0)) ≡ 0
+zeros_first zero n = refl
+zeros_first (suc a) zero = refl
+zeros_first (suc a) (suc n) = zeros_first a n
+
+-- bytes at the end of a word of zeros
+module _ (a k : ℕ) (bytes : List ℕ) (e : a + length bytes ≡ 8) (f : k ≡ length bytes) where
+  abbrev word : List ℕ
+  word = put_mid a k (0 ∷ 0 ∷ 0 ∷ 0 ∷ 0 ∷ 0 ∷ 0 ∷ 0 ∷ []) bytes
+
+  none_behind : post_of {X = ℕ} a k (replicate 8 0) ≡ []
+  none_behind = nil_from_length _ (simp length-drop (omega arith))
+
+  word_is : word ≡ take a (replicate 8 0) ++ bytes
+  word_is = ap (λ zs. take a (replicate 8 0) ++ (bytes ++ zs)) none_behind ∙ ap (λ zs. take a (replicate 8 0) ++ zs) (append-nil bytes)
+
+  word_length : length word ≡ 8
+  word_length = ap length word_is ∙ length-append (take a (replicate 8 0)) bytes ∙ simp length-take (omega arith)
+
+  pub word_value : number_from_digits 256 word ≡ number_from_digits 256 bytes
+  word_value =
+      ap (number_from_digits 256) word_is
+      ∙ number_after_append 256 0 (take a (replicate 8 0)) bytes
+      ∙ ap (λ n. number_from_digits_after 256 n bytes) (zeros_first a 8)
+
+  pub word_number : (r : ℕ) → r ≡ get_or word 0 0 * 72057594037927936 + get_or word 1 0 * 281474976710656 + get_or word 2 0 * 1099511627776 + get_or word 3 0 * 4294967296 + get_or word 4 0 * 16777216 + get_or word 5 0 * 65536 + get_or word 6 0 * 256 + get_or word 7 0 →
+      r ≡ number_from_digits 256 bytes
+  word_number r h = h ∙ sym (eight_value word word_length) ∙ word_value

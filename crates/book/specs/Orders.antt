@@ -1,4 +1,4 @@
--- The orders of rows and of stimuli are total.
+-- The orders of rows and of stimuli are total, and `cmp` answers by them.
 use Rattle.std.specs.Prelude.{◌≡◌, refl}
 use Rattle.std.specs.declared.cmp.Ordering.TheVariants.{Less, Equal, Greater}
 use Rattle.std.specs.declared.cmp.Ordering.{Ordering}
@@ -9,6 +9,10 @@ use Rattle.std.proofs.lemmas.Map.Lookups.{CmpEqualImpliesEq, exact_unsigned, exa
 use Rattle.book.specs.Order.{TotalOrder}
 use Rattle.book.specs.Records.{byte_order, row_order, key, stimulus_order}
 use Rattle.std.specs.Cmp.Lexicographic.{lists_total}
+use Rattle.book.specs.declared.row.Row.{Row}
+use Rattle.book.specs.declared.stimulus.Stimulus.{Stimulus}
+use Rattle.book.specs.contracts.row.RowOrd.TheImpl as row_ord
+use Rattle.book.specs.contracts.stimulus.StimulusOrd.TheImpl as stimulus_ord
 
 self_tied : (o : Ordering) → o ≡ ordering_reverse o → o ≡ Equal
 self_tied Less e = e ∙ sym e ∙ cc
@@ -37,3 +41,9 @@ stimulus_total =
     (exact_pairs nat_cmp (λ x y. ordering_then (nat_cmp x.0 y.0) (nat_cmp x.1 y.1)) exact_unsigned
     (exact_pairs nat_cmp nat_cmp exact_unsigned exact_unsigned))
     key (λ x y e i. record { tick = (e i).0; serial = (e i).1.0; input = (e i).1.1 })
+
+pub row_cmp : (x y : Row) → (row_ord.ghosts).cmp x y ≡ row_order x y
+row_cmp x y = refl
+
+pub stimulus_cmp : (x y : Stimulus) → (stimulus_ord.ghosts).cmp x y ≡ stimulus_order x y
+stimulus_cmp x y = refl

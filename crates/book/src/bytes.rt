@@ -1,22 +1,18 @@
 // Bytes are compared eight at a time, as numbers.
-ghost use Rattle.std.specs.Prelude.{◌≡◌};
+ghost use Rattle.std.specs.Prelude.{◌≡◌, ◌≤◌, length};
 ghost use Rattle.book.specs.Records.{byte_order};
 ghost use Rattle.book.specs.Words.{Word};
 
 use std::cmp::Ordering;
 
-// Eight bytes as one number, the first the highest.
-fn eight(bytes: &[u8; 8]) -> u64
+// Up to eight bytes as one number, the first the highest.
+fn number(bytes: &[u8]) -> u64
+    requires { length bytes.now ≤ 8 }
     ensures { Word bytes.now result }
 {
-    u64::from_be_bytes(*bytes)
-}
-
-// Four bytes as one number, the first the highest.
-fn four(bytes: &[u8; 4]) -> u32
-    ensures { Word bytes.now result }
-{
-    u32::from_be_bytes(*bytes)
+    let mut word = [0u8; 8];
+    word[8 - bytes.len()..].copy_from_slice(bytes);
+    u64::from_be_bytes(word)
 }
 
 // The first four bytes at once, then byte by byte.
@@ -29,15 +25,8 @@ fn compare_tail(one: &[u8], other: &[u8]) -> Ordering
     let Some((y, after_y)) = other.split_first_chunk::<4>() else {
         return one.cmp(&other);
     };
-    let p = four(x);
-    let q = four(y);
-    if p < q {
-        return Ordering::Less;
-    }
-    if q < p {
-        return Ordering::Greater;
-    }
-    after_x.cmp(&after_y)
+    let order = number(x).cmp(&number(y));
+    order.then_with(|| after_x.cmp(&after_y))
 }
 
 // Bytes by the first that differs, and else by their number.
@@ -50,13 +39,9 @@ pub fn compare(one: &[u8], other: &[u8]) -> Ordering
         let Some((y, after_y)) = b.split_first_chunk::<8>() else {
             return a.cmp(&b);
         };
-        let p = eight(x);
-        let q = eight(y);
-        if p < q {
-            return Ordering::Less;
-        }
-        if q < p {
-            return Ordering::Greater;
+        let order = number(x).cmp(&number(y));
+        if order.is_ne() {
+            return order;
         }
         a = after_x;
         b = after_y;

@@ -1,18 +1,17 @@
 ghost use Rattle.std.specs.Prelude.{◌≡◌, ◌+◌, ◌<◌, ◌≤◌, ◌++◌, length, take, drop, MatchResult};
 ghost use Rattle.std.specs.List.{insert};
-ghost use Rattle.book.specs.Order.{Kept};
+ghost use Rattle.book.specs.Order.{TotalOrder, Kept, Kept-prop};
 ghost use Rattle.book.specs.Place.{place};
-ghost use Rattle.book.specs.Putting.{answer, list_after, Puts, PutsRight};
+ghost use Rattle.book.specs.Putting.{Puts, PutsRight};
 
-use crate::record::Record;
 use fddevs::refusal::Refusal;
-use std::cmp::Ordering;
 
 // A list of the caller's, whose first `count` entries are the records kept.
 #[derive(Drop)]
-pub struct Book<'a, T> {
+pub struct Book<'a, T: Ord> {
     list: &'a mut [T],
     count: usize,
+    ghost kept: { Kept T.cmp list.now count } by { Kept-prop T.cmp list.now count },
 }
 
 // What became of a record: it was added, or it was there already.
@@ -20,25 +19,6 @@ pub struct Book<'a, T> {
 pub enum Put {
     Added,
     Present,
-}
-
-// Where the record stands among the first `count`, or else where it belongs, by bisection.
-fn find<T: Record>(list: &[T], count: usize, item: &T) -> Result<usize, usize>
-    requires { count ≤ length list.now }
-    ensures place { result ≡ place T.order item.now list.now count }
-    ensures bound { MatchResult result (λ i. i < count) (λ i. i ≤ count) }
-{
-    let mut low = 0;
-    let mut high = count;
-    while low < high {
-        let mid = low + (high - low) / 2;
-        match list[mid].compare(item) {
-            Ordering::Less => low = mid + 1,
-            Ordering::Equal => return Ok(mid),
-            Ordering::Greater => high = mid,
-        }
-    }
-    Err(low)
 }
 
 // Moves the records from `at` on up by one entry, as one block, and writes the new one at `at`.
@@ -50,54 +30,43 @@ fn insert<T: Copy>(list: &mut [T], count: usize, at: usize, item: T)
     list[at] = item;
 }
 
-// Puts the record among the first `count`, unless it is there or no entry is free.
-fn put_in<T: Record>(list: &mut [T], count: usize, item: T) -> Result<Put, Refusal>
-    ensures answer { result ≡ answer T.order item list.old count }
-    ensures list { list.new ≡ list_after T.order item list.old count }
-{
-    match find(list, count.min(list.len()), &item) {
-        Ok(_) => Ok(Put::Present),
-        Err(at) => {
-            if count >= list.len() {
-                return Err(Refusal::NoRoom);
-            }
-            insert(list, count, at, item);
-            Ok(Put::Added)
-        }
-    }
-}
-
-impl<'a, T: Record> Book<'a, T> {
+impl<'a, T: Ord + Copy> Book<'a, T> {
     // An empty book over a list.
     pub fn new(list: &'a mut [T]) -> Self
         ensures list { result.list.now ≡ list.old }
         ensures count { result.count ≡ 0 }
-        ensures kept { Kept T.order result.list.now result.count }
+        ensures kept { Kept T.cmp result.list.now result.count }
         ensures names { result.list.ghost_name ≡ list.entry.ghost_name }
     {
         Book { list, count: 0 }
     }
 
-    // Puts a record in its place and counts it.
-    fn add(&mut self, item: T) -> Result<Put, Refusal>
-        ensures puts { Puts T.order item self.old.list.now self.old.count result self.new.list.now self.new.count }
-        ensures names { self.new.list.ghost_name ≡ self.old.list.ghost_name }
+    // Where the record stands, or else where it belongs.
+    fn place(&self, item: &T) -> Result<usize, usize>
+        ensures place { result ≡ place T.cmp item.now self.now.list.now self.now.count }
+        ensures bound { MatchResult result (λ i. i < self.now.count) (λ i. i ≤ self.now.count) }
     {
         let Book { list, count } = self;
-        let answer = put_in(list, *count, item);
-        if let Ok(Put::Added) = answer {
-            *count += 1;
-        }
-        answer
+        list[..*count].binary_search(item)
     }
 
     // Puts a record in its place, once. A refusal leaves the book as it was.
     pub fn put(&mut self, item: T) -> Result<Put, Refusal>
-        ensures puts { Puts T.order item self.old.list.now self.old.count result self.new.list.now self.new.count }
-        ensures right { Kept T.order self.old.list.now self.old.count → PutsRight T.order item self.old.list.now self.old.count result self.new.list.now self.new.count }
+        ensures puts { Puts T.cmp item self.old.list.now self.old.count result self.new.list.now self.new.count }
+        ensures right { TotalOrder T.cmp → PutsRight T.cmp item self.old.list.now self.old.count result self.new.list.now self.new.count }
         ensures names { self.new.list.ghost_name ≡ self.old.list.ghost_name }
     {
-        self.add(item)
+        let at = match self.place(&item) {
+            Ok(_) => return Ok(Put::Present),
+            Err(at) => at,
+        };
+        let Book { list, count } = self;
+        if *count == list.len() {
+            return Err(Refusal::NoRoom);
+        }
+        insert(list, *count, at, item);
+        *count += 1;
+        Ok(Put::Added)
     }
 
     // How many records are kept.

@@ -3,6 +3,5 @@
 
 pub mod bytes;
 pub mod keeping;
-pub mod record;
 pub mod row;
 pub mod stimulus;

@@ -8,7 +8,7 @@ use Rattle.fddevs.proofs.Vetting.{first_some, first_none}
 use Rattle.set_file.specs.Layout.{some_parts, width, stretch, row_count}
 use Rattle.lookup.specs.Reading.{loaded}
 use Rattle.lookup.specs.Shape.{shape, shape_of}
-use Rattle.lookup.specs.declared.rows.Rows.{Rows}
+use Rattle.set_file.specs.declared.rows.Rows.{Rows}
 use Rattle.lookup.proofs.Stretches.{stretch_length}
 use Rattle.stepping.specs.RowBytes.{cells_of}
 use Rattle.stepping.proofs.Written.{take_cells}

@@ -12,7 +12,7 @@ use Rattle.set_file.specs.Layout.{some_parts, width, front, stretch, row_count}
 use Rattle.set_file.proofs.Seeking.{seek_passed}
 use Rattle.lookup.specs.Finding.{Rising, Here, Nowhere}
 use Rattle.lookup.specs.Shape.{Shape, shape, shape_of}
-use Rattle.lookup.specs.declared.rows.Rows.{Rows}
+use Rattle.set_file.specs.declared.rows.Rows.{Rows}
 use Rattle.lookup.proofs.Rising.{rising}
 use Rattle.lookup.proofs.Stretches.{stretch_length}
 use Rattle.stepping.specs.RowBytes.{cells_of, row_bytes}

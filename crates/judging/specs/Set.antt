@@ -3,7 +3,7 @@ use Rattle.std.specs.Prelude.{◌≡◌}
 use Rattle.fddevs.specs.Machine.{Family}
 use Rattle.lookup.specs.Finding.{Rising}
 use Rattle.lookup.specs.Shape.{shape, shape_of}
-use Rattle.lookup.specs.declared.rows.Rows.{Rows}
+use Rattle.set_file.specs.declared.rows.Rows.{Rows}
 use Rattle.proof_rules.specs.Files.{Bytes}
 
 -- the rows are those of a family's parts, and ascend strictly

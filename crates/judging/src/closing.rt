@@ -12,6 +12,7 @@ ghost use Rattle.lookup.specs.Shape.{shape, shape_of};
 use bank::interface::Bank;
 use book::row::Row;
 use fddevs::scheme::Move;
+use lookup::finding::find;
 use lookup::rows::Rows;
 use stepping::known::know_row;
 use stepping::steps::Scheme;
@@ -50,7 +51,7 @@ impl<B: Bank> Members<'_, B> {
         ensures { result ≡ among (rows_in (B.Bank.family self.now.scheme.bank.now).count self.now.rows.body.now) (take (B.Bank.family self.now.scheme.bank.now).count (cells_of row.now.bytes)) }
     {
         know_row(row);
-        match self.rows.find(row, *hint) {
+        match find(&self.rows, row, *hint) {
             Some(place) => {
                 *hint = place;
                 true

@@ -3,6 +3,7 @@ use Rattle.std.proofs.Common.{◌≡◌, ℕ, ◌<◌, List, Some, None, Option,
 use Rattle.std.proofs.lemmas.Bool.{cases_order}
 use Rattle.book.specs.Records.{byte_order}
 use Rattle.book.specs.Orders.{bytes_total}
+use Rattle.book.proofs.Places.{clash}
 use Rattle.set_file.specs.Layout.{stretch}
 use Rattle.lookup.specs.Finding.{Rising, Found}
 
@@ -11,7 +12,7 @@ module _ (w : ℕ) (body : List ℕ) (n : ℕ) (up : Rising w body n) where
   differ j k h l e =
       let s = up j k h l in
       let t : byte_order (stretch w body j) (stretch w body k) ≡ Equal = ap (λ y. byte_order y (stretch w body k)) e ∙ bytes_total.itself (stretch w body k) in
-      let z : ◌≡◌ {A = ℕ} 0 1 = cc in omega arith
+      omega (arith, clash s t)
 
   -- rows that are the same have the same number
   pub one_place : (j k : ℕ) → j < n → k < n → stretch w body j ≡ stretch w body k → j ≡ k

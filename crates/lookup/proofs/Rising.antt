@@ -1,5 +1,5 @@
 -- Rows rise where each is above the one before it.
-use Rattle.std.proofs.Common.{◌≡◌, ℕ, zero, suc, ◌-◌, ◌<◌, ◌≤◌, true, ◌&&◌, List, Ordering, Less, Equal, Greater, refl, subst, inl, inr, arith, lt-ltb, le-leb}
+use Rattle.std.proofs.Common.{◌≡◌, ℕ, zero, suc, ◌-◌, ◌<◌, ◌≤◌, true, List, Ordering, Less, Equal, Greater, refl, subst, inl, inr, arith}
 use Rattle.std.specs.Ordering.{is_lt}
 use Rattle.std.proofs.lemmas.Bool.{cases_lt}
 use Rattle.book.specs.Records.{byte_order}
@@ -7,7 +7,7 @@ use Rattle.book.specs.Orders.{bytes_total}
 use Rattle.set_file.specs.Layout.{stretch}
 use Rattle.set_file.specs.Reading.{climbs}
 use Rattle.lookup.specs.Finding.{Rising}
-use Rattle.lookup.specs.Reading.{climbs_at}
+pub use Rattle.set_file.proofs.Numbered.{climbs_there}
 
 is_less : (o : Ordering) → is_lt o ≡ true → o ≡ Less
 is_less Less e = refl
@@ -31,7 +31,3 @@ module _ (w : ℕ) (body : List ℕ) (n : ℕ) (up : (k : ℕ) → 1 ≤ k → k
 
   pub rising : Rising w body n
   rising i j = below_all j i
-
--- where row k and a row before it are there, the answer of `climbs` is about them
-pub climbs_there : (w : ℕ) (body : List ℕ) (n k : ℕ) → 1 ≤ k → k < n → climbs_at w body n k ≡ climbs w body k
-climbs_there w body n k h l = (λ i. le-leb 1 k h i && lt-ltb k n l i && climbs w body k)

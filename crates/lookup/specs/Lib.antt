@@ -1,3 +1,4 @@
 pub mod Shape
 pub mod Reading
 pub mod Finding
+pub mod Searching

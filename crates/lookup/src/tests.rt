@@ -1,3 +1,4 @@
+use crate::finding::find;
 use crate::rows::Rows;
 use book::row::Row;
 
@@ -11,7 +12,7 @@ fn record(phase: u8, remaining: u8) -> Row {
 
 // Where one of them stands among the rows of a body. What follows promises nothing, so that a test is quickly proved.
 fn found(parts: u8, body: &[u8], phase: u8, remaining: u8, hint: usize) -> Option<usize> {
-    Rows::new(parts, body).find(&record(phase, remaining), hint)
+    find(&Rows::new(parts, body), &record(phase, remaining), hint)
 }
 
 // Whether every row of one part in a body is found from every row as the hint.
@@ -21,7 +22,7 @@ fn each_is_found(body: &[u8]) -> bool {
         let mut row = record(255, 255);
         rows.load(k, &mut row);
         for hint in 0..rows.count() {
-            if rows.find(&row, hint) != Some(k) {
+            if find(&rows, &row, hint) != Some(k) {
                 return false;
             }
         }

@@ -17,7 +17,7 @@ use Rattle.bars.specs.Bars.{barred}
 use Rattle.book.specs.Records.{byte_order}
 use Rattle.set_file.specs.Layout.{width, body_fits, stretch, row_count}
 use Rattle.set_file.specs.Reading.{climbs}
-use Rattle.set_file.proofs.Rows.{inside}
+use Rattle.set_file.proofs.Numbered.{inside}
 use Rattle.set_file.proofs.Seeking.{seek_passed, seek_passes, then_passed, unless_passed}
 use Rattle.set_file.proofs.Stretches.{joined_length, joined_stretch, stretches}
 use Rattle.stepping.specs.RowBytes.{cells_of, row_bytes}

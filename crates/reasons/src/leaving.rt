@@ -12,6 +12,7 @@ ghost use Rattle.reasons.specs.Leaving.{LeadsOut, LeavesBy, Leaves};
 use bank::interface::Bank;
 use book::row::Row;
 use fddevs::scheme::Move;
+use lookup::finding::find;
 use lookup::rows::Rows;
 use stepping::known::know_row;
 use stepping::steps::Scheme;
@@ -44,7 +45,7 @@ impl<B: Bank> Leaver<'_, B> {
         let mut next = *self.row;
         self.scheme.step(a, &mut next);
         know_row(&next);
-        match self.rows.find(&next, 0) {
+        match find(self.rows, &next, 0) {
             Some(_) => None,
             None => Some(next),
         }

@@ -1,6 +1,6 @@
 -- Records put into a list one after another, the last first.
-use Rattle.std.proofs.Common.{◌≡◌, ℕ, ◌+◌, ◌<◌, List, [], ◌∷◌, reverse, length, get_or, take, Ok, Err, sym, ap, ◌∙◌}
-use Rattle.std.proofs.lemmas.List.{take_more, reverse-append}
+use Rattle.std.proofs.Common.{◌≡◌, ℕ, List, [], ◌∷◌, ◌++◌, reverse, Ok, Err, sym, ap, ◌∙◌}
+use Rattle.std.proofs.lemmas.List.{reverse-append}
 use Rattle.fddevs.specs.declared.refusal.Refusal.{Refusal}
 use Rattle.book.specs.declared.row.Row.{Row}
 use Rattle.book.specs.declared.keeping.Put.{Put}
@@ -8,8 +8,8 @@ use Rattle.book.specs.Records.{row_order}
 use Rattle.book.specs.Putting.{Answer, answer, list_after, count_after, Puts}
 use Rattle.rewriting.specs.Again.{put_then, keep_all}
 
-pub last_first : (xs : List Row) (k : ℕ) (d : Row) → k < length xs → reverse (take (k + 1) xs) ≡ get_or xs k d ∷ reverse (take k xs)
-last_first xs k d h = ap reverse (take_more xs k d h) ∙ reverse-append (take k xs) (get_or xs k d ∷ [])
+pub last_first : (xs ys : List Row) (x : Row) → xs ≡ ys ++ x ∷ [] → reverse xs ≡ x ∷ reverse ys
+last_first xs ys x e = ap reverse e ∙ reverse-append ys (x ∷ [])
 
 -- a record was put: what is left to keep gives the same
 pub goes_on : (x : Row) (rest list : List Row) (n : ℕ) (r : Answer) (ys : List Row) (m : ℕ) (p : Put) →

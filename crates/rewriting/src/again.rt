@@ -11,8 +11,8 @@ use set_file::writing::write;
 fn keep_all(records: &[Row], book: &mut Book<Row>) -> Result<(), Refusal>
     ensures { kept_in result book.new.list.now book.new.count ≡ keep_all (reverse records.now) book.old.list.now book.old.count }
 {
-    for k in (0..records.len()).rev() {
-        book.put(records[k])?;
+    for record in records.iter().rev() {
+        book.put(*record)?;
     }
     Ok(())
 }

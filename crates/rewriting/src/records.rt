@@ -21,11 +21,7 @@ fn record_of(bytes: &[u8]) -> Row
 pub fn records(heap: Global, set: &SetReader) -> Result<Vec<Row>, AllocError>
     ensures { IfOk result (λ v. v.items ≡ map row_of (held set.now)) }
 {
-    let mut list = Vec::new(heap);
-    for k in 0..set.count() {
-        if let Some(bytes) = set.row(k) {
-            list.push(record_of(bytes))?;
-        }
-    }
-    Ok(list)
+    (0..set.count())
+        .filter_map(|k| set.row(k).map(record_of))
+        .collect(heap)
 }

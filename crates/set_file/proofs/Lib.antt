@@ -1,6 +1,5 @@
 pub mod Seeking
-pub mod Rows
-pub mod Vetted
+pub mod Numbered
 pub mod Written
 pub mod Fronts
 pub mod Stretches

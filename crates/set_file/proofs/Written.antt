@@ -1,10 +1,10 @@
--- A row more of a set file, and its head and body as one.
-use Rattle.std.proofs.Common.{◌≡◌, ℕ, ◌+◌, ◌*◌, ◌<◌, ◌≤◌, List, [], ◌++◌, length, get_or, take, drop, sym, ap, ◌∙◌, add-mul, arith, length-append}
+-- A row more of a set file.
+use Rattle.std.proofs.Common.{◌≡◌, ℕ, ◌+◌, ◌*◌, ◌<◌, ◌≤◌, List, [], ◌++◌, length, get_or, take, sym, ap, ◌∙◌, add-mul, arith, length-append}
 use lib.Seq.{paste}
 use borrow.Rule.Slice.PartMut.{put_mid}
 use Rattle.std.specs.List.{flat_map}
 use Rattle.std.proofs.lemmas.List.{take_more, flat_map_more}
-use Rattle.std.proofs.lemmas.List.Edits.{paste-paste, paste_all}
+use Rattle.std.proofs.lemmas.List.Edits.{paste-paste}
 use Rattle.std.proofs.lemmas.Slice.{put_mid-paste}
 use Rattle.book.specs.declared.row.Row.{Row}
 use Rattle.set_file.specs.Layout.{front}
@@ -28,8 +28,3 @@ module _ (start : List ℕ) (rows : List Row) (w : ℕ) (long : 6 ≤ length sta
             ∙ paste-paste start 6 (done i) (front w (get_or rows i d)) (i * w) w (sym el) (sym z) long
             ∙ sym (λ j. paste start 6 (t j) (m j)),
       )
-
--- a head of six bytes, and a body behind it
-pub whole : (start h b out : List ℕ) (m : ℕ) → 6 ≡ length h → m ≡ length b → out ≡ paste (paste start 0 h 6) 6 b m → out ≡ h ++ b ++ drop (6 + m) start
-whole start h b out m eh eb e =
-    e ∙ paste-paste start 0 h b 6 m eh eb (omega arith) ∙ paste_all start 0 (h ++ b) (6 + m) (omega (arith, length-append h b)) ∙ ap (λ j. h ++ b ++ drop j start) (omega arith)

@@ -5,7 +5,7 @@ use Rattle.set_file.specs.declared.reader.SetReader.{SetReader}
 use Rattle.set_file.specs.Reading.{rows_of}
 
 abbrev pub held : SetReader → List (List ℕ)
-held reader = rows_of reader.width reader.body.now
+held reader = rows_of reader.rows.width reader.rows.body.now
 
 abbrev pub held_by : Result SetReader Refusal → Result (List (List ℕ)) Refusal
 held_by (Ok reader) = Ok (held reader)

@@ -1,7 +1,8 @@
 -- What the reader answers of a file. Assumes nothing.
-use Rattle.std.specs.Prelude.{ℕ, ◌+◌, ◌-◌, ◌%◌, Bool, ◌&&◌, List, map, length, drop, Ok, Err, Result, ◌==◌, nat_le, slice_index}
+use Rattle.std.specs.Prelude.{ℕ, ◌+◌, ◌-◌, ◌%◌, Bool, ◌&&◌, List, map, length, drop, Result, ◌==◌, nat_le, slice_index}
 use Rattle.std.specs.List.{range_with_len}
 use Rattle.std.specs.Ordering.{is_lt}
+pub use Rattle.fddevs.specs.Vetting.{vetted}
 use Rattle.fddevs.specs.Vetting.{Vetted, then, unless, seek, found}
 use Rattle.fddevs.specs.declared.refusal.Layer.TheVariants.{BookAndPlayback}
 use Rattle.fddevs.specs.declared.refusal.Refusal.{Refusal}
@@ -31,11 +32,6 @@ order_vetting w body = found (RowOrder BookAndPlayback) (seek (climbs w body) 1 
 -- the rows of a body, each of w bytes
 abbrev pub rows_of : ℕ → List ℕ → List (List ℕ)
 rows_of w body = map (stretch w body) (range_with_len 0 (row_count w body))
-
--- a value, unless the vetting refused
-abbrev pub vetted : {A : Type 0} → Vetted → A → Result A Refusal
-vetted (Ok _) x = Ok x
-vetted (Err e) x = Err e
 
 -- the rows of a set file of n parts
 abbrev pub read_set : ℕ → List ℕ → Result (List (List ℕ)) Refusal

@@ -1,5 +1,6 @@
 -- What the writer answers and leaves. Assumes nothing.
-use Rattle.std.specs.Prelude.{◌≡◌, ℕ, ◌+◌, ◌-◌, ◌*◌, ◌<◌, Bool, true, ◌&&◌, List, [], ◌∷◌, ◌++◌, map, length, take, drop, Ok, Err, Result, ◌==◌, nat_le, slice_index_or}
+use Rattle.std.specs.Prelude.{◌≡◌, ℕ, ◌+◌, ◌-◌, ◌*◌, ◌<◌, Bool, List, [], ◌++◌, map, length, take, drop, Ok, Err, Result, ◌==◌, nat_le, slice_index_or}
+use Rattle.std.specs.List.{list_all}
 use Rattle.std.specs.Ordering.{is_lt}
 use Rattle.fddevs.specs.Vetting.{Vetted, then, unless, seek, found}
 use Rattle.fddevs.specs.declared.refusal.Layer.TheVariants.{BookAndPlayback}
@@ -28,8 +29,7 @@ size_vetting n count size =
     (unless (body_fits (count * width n)) (Body BookAndPlayback)))
 
 abbrev pub zeros : List ℕ → Bool
-zeros [] = true
-zeros (b ∷ bs) = b == 0 && zeros bs
+zeros = list_all (λ b. b == 0)
 
 -- the bytes beyond the first w are 0
 abbrev pub clean : ℕ → Row → Bool

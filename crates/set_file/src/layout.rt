@@ -1,6 +1,9 @@
-// What the writer and the reader of set files share.
-ghost use Rattle.std.specs.Prelude.{◌≡◌};
+// What files of rows and of proofs are made of: the head, and how wide a row is.
+ghost use Rattle.std.specs.Prelude.{◌≡◌, IfSome};
+ghost use Rattle.std.specs.Option.{is_some};
 ghost use Rattle.set_file.specs.Layout.{some_parts, width, body_fits};
+ghost use Rattle.set_file.specs.Reading.{whole};
+ghost use Rattle.set_file.specs.Head.{IsHeadOf};
 
 // The version and the kind of a set file.
 pub(crate) const VERSION: u8 = 1;
@@ -11,7 +14,7 @@ pub(crate) const KIND: u8 = 1;
 pub(crate) fn some_parts(n: u8) -> bool
     ensures { result ≡ some_parts n }
 {
-    1 <= n && n <= 16
+    (1..=16).contains(&n)
 }
 
 // How many bytes a row of n parts has.
@@ -25,5 +28,34 @@ pub(crate) fn width(n: u8) -> usize
 pub(crate) fn body_fits(length: usize) -> bool
     ensures { result ≡ body_fits length }
 {
-    1 <= length && length <= 4_194_304
+    (1..=4_194_304).contains(&length)
+}
+
+// What a file says of itself in its first two bytes, and the body behind its head.
+#[derive(Clone, Copy)]
+pub struct Head<'a> {
+    pub version: u8,
+    pub kind: u8,
+    pub body: &'a [u8],
+}
+
+impl<'a> Head<'a> {
+    // The head of a file, or none where the file is not its head and a body of the length that the head says.
+    pub fn read(file: &'a [u8]) -> Option<Self>
+        ensures whole { is_some result ≡ whole file.now }
+        ensures parts { IfSome result (IsHeadOf file.now) }
+    {
+        let [version, kind, a, b, c, d, body @ ..] = file else {
+            return None;
+        };
+        let length = u32::from_be_bytes([*a, *b, *c, *d]) as usize;
+        if length != body.len() {
+            return None;
+        }
+        Some(Head {
+            version: *version,
+            kind: *kind,
+            body,
+        })
+    }
 }

@@ -1,9 +1,9 @@
 // Set files: a set of rows written as a file, and read again.
 #![tactic(auto)]
 
-mod layout;
+pub mod layout;
 pub mod reader;
-pub mod reading;
+pub mod rows;
 #[cfg(test)]
 mod tests;
 pub mod writing;

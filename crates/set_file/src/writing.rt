@@ -1,12 +1,13 @@
 // Writing a set file.
-ghost use Rattle.std.specs.Prelude.{◌≡◌, ◌+◌, ◌*◌, ◌<◌, ◌≤◌, length, take, OnOk, nat_le};
+ghost use Rattle.std.specs.Prelude.{◌≡◌, ◌+◌, ◌-◌, ◌*◌, ◌<◌, ◌≤◌, length, take, OnOk, IsNone, nat_le};
 ghost use Rattle.std.proofs.Math.Seq.{paste};
 ghost use Rattle.std.specs.List.{flat_map};
+ghost use Rattle.fddevs.specs.Vetting.{seek};
 ghost use Rattle.set_file.specs.Layout.{head, front};
-ghost use Rattle.set_file.specs.Writing.{Whole, size_vetting, zeros, clean, bytes_vetting, rises, rows_vetting, write_vetting, written, left, ReadBack};
+ghost use Rattle.set_file.specs.Writing.{Whole, size_vetting, clean, clean_at, rises, write_vetting, written, left, ReadBack};
 
 use crate::layout::{KIND, VERSION, body_fits, some_parts, width};
-use book::row::{Row, below};
+use book::row::Row;
 use fddevs::refusal::{Layer, Refusal};
 
 // Whether an output of `size` bytes has room for a file of `count` rows.
@@ -34,25 +35,22 @@ fn vet_size(n: u8, count: usize, size: usize) -> Result<(), Refusal>
     Ok(())
 }
 
-// Whether all bytes are 0.
-fn zeros(bytes: &[u8]) -> bool
-    ensures { result ≡ zeros bytes.now }
-{
-    for byte in bytes {
-        if *byte != 0 {
-            return false;
-        }
-    }
-    true
-}
-
 // Whether the bytes of a row beyond the first `width` are 0.
 fn clean(width: usize, row: &Row) -> bool
     requires { width ≤ 48 }
     ensures clean { result ≡ clean width row.now }
     ensures whole { length row.now.bytes ≡ 48 }
 {
-    zeros(&row.bytes[width..])
+    row.bytes[width..].iter().all(|&byte| byte == 0)
+}
+
+// The first row with a byte beyond its first `width` that is not 0.
+fn first_unclean(width: usize, rows: &[Row]) -> Option<usize>
+    requires { width ≤ 48 }
+    ensures place { result ≡ seek (clean_at width rows.now) 0 (length rows.now) }
+    ensures whole { IsNone result → Whole rows.now (length rows.now) }
+{
+    rows.iter().position(|row| !clean(width, row))
 }
 
 // Whether row k is above the one before it.
@@ -60,33 +58,18 @@ fn rises(rows: &[Row], k: usize) -> bool
     requires { (1 ≤ k) × (k < length rows.now) }
     ensures { result ≡ rises rows.now k }
 {
-    below(&rows[k - 1].bytes, &rows[k].bytes)
+    rows[k - 1] < rows[k]
 }
 
-// Whether no row has a byte beyond its first `width` that is not 0.
-fn vet_bytes(width: usize, rows: &[Row]) -> Result<(), Refusal>
-    requires { width ≤ 48 }
-    ensures vetting { result ≡ bytes_vetting width rows.now }
-    ensures whole { OnOk result (Whole rows.now (length rows.now)) }
+// The first row that is not above the one before it.
+fn first_fall(rows: &[Row]) -> Option<usize>
+    ensures { result ≡ seek (rises rows.now) 1 (length rows.now - 1) }
 {
-    for (k, row) in rows.iter().enumerate() {
-        if !clean(width, row) {
-            return Err(Refusal::RowBytes(k));
-        }
-    }
-    Ok(())
-}
-
-// Whether the rows ascend strictly.
-fn vet_rows(rows: &[Row]) -> Result<(), Refusal>
-    ensures { result ≡ rows_vetting rows.now }
-{
-    for k in 1..rows.len() {
-        if !rises(rows, k) {
-            return Err(Refusal::RowOrder(Layer::BookAndPlayback, k));
-        }
-    }
-    Ok(())
+    (1..rows.len()).find(
+        |&k|
+            requires { (1 ≤ k) × (k < length rows.now) }
+        { !rises(rows, k) },
+    )
 }
 
 // Whether the rows make a file, and the output has room for it.
@@ -95,8 +78,13 @@ fn vet(n: u8, rows: &[Row], size: usize) -> Result<(), Refusal>
     ensures whole { OnOk result (Whole rows.now (length rows.now)) }
 {
     vet_size(n, rows.len(), size)?;
-    vet_bytes(width(n), rows)?;
-    vet_rows(rows)
+    if let Some(k) = first_unclean(width(n), rows) {
+        return Err(Refusal::RowBytes(k));
+    }
+    match first_fall(rows) {
+        Some(k) => Err(Refusal::RowOrder(Layer::BookAndPlayback, k)),
+        None => Ok(()),
+    }
 }
 
 // The head of a set file whose body has `body` bytes.
@@ -114,10 +102,9 @@ fn write_rows(width: usize, rows: &[Row], out: &mut [u8])
     ensures long { length (flat_map (front width) rows.now) ≡ length rows.now * width }
     ensures after { out.new ≡ paste out.old 6 (flat_map (front width) rows.now) (length rows.now * width) }
 {
-    let mut at = 6;
-    for row in rows {
-        out[at..at + width].copy_from_slice(&row.bytes[0..width]);
-        at += width;
+    for (k, row) in rows.iter().enumerate() {
+        let at = 6 + k * width;
+        out[at..at + width].copy_from_slice(&row.bytes[..width]);
     }
 }
 
@@ -139,7 +126,7 @@ fn write_all(n: u8, rows: &[Row], out: &mut [u8]) -> Result<usize, Refusal>
 fn first(rows: &[Row], count: usize) -> &[Row]
     ensures { result.now ≡ take count rows.now }
 {
-    &rows[0..count.min(rows.len())]
+    rows.get(..count).unwrap_or(rows)
 }
 
 // Writes the set file of the first `count` rows, all if the count is larger, each as the bytes of its first n parts.

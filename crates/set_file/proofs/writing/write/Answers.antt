@@ -1,18 +1,10 @@
-use Rattle.std.proofs.Common.{length, IfOk, ap, ◌∙◌, subst}
-use Rattle.set_file.specs.Writing.{Whole, written, left}
+use Rattle.std.proofs.Common.{subst}
+use Rattle.set_file.specs.Writing.{ReadBack}
 use Rattle.set_file.proofs.RoundTrip.{read_back}
 use Rattle.set_file.proofs.writing.write.Goals as goal
 
-pub returns : goal.returns
-returns c =
-    let n = c.args.n in
-    let out = c.args.out.now in
-    let r = c.write_all.result in
-    let e = c.first.ensures in
-    let answer = c.write_all.ensures.answer ∙ ap (λ rows. written n rows (length out)) e in
-    let after = c.write_all.ensures.after ∙ ap (λ rows. left n rows out) e in
-    record {
-      answer = answer;
-      after = after;
-      again = read_back n _ out r _ answer after (subst (λ rows. IfOk r (λ _. Whole rows (length rows))) e c.write_all.ensures.whole);
-    }
+pub returns-clause-again : goal.returns-clause-again
+returns-clause-again c =
+    let e = c.write_all.ensures in
+    subst (λ rows. ReadBack c.args.n rows c.write_all.result c.write_all.new.out) c.first.ensures
+    (read_back c.args.n _ c.args.out.now c.write_all.result _ e.answer e.after e.whole)

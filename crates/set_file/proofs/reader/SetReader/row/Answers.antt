@@ -1,6 +1,12 @@
-use Rattle.std.proofs.Common.{◌∙◌}
-use Rattle.set_file.proofs.Rows.{row_there}
+use Rattle.std.proofs.Common.{ltb, ap, ◌∙◌}
+use Rattle.fddevs.specs.Machine.{when}
+use Rattle.set_file.specs.Layout.{stretch}
+use Rattle.set_file.proofs.Numbered.{row_there}
 use Rattle.set_file.proofs.reader.SetReader.row.Goals as goal
 
 pub returns : goal.returns
-returns c = c.find.ensures ∙ row_there c.args.self.now.width c.args.self.now.body.now c.args.k
+returns c =
+    let rows = c.args.self.now.rows in
+    c.row.ensures
+    ∙ ap (λ n. when (ltb c.args.k n) (stretch rows.width rows.body.now c.args.k)) rows.counted
+    ∙ row_there rows.width rows.body.now c.args.k

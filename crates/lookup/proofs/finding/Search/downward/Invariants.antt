@@ -1,0 +1,11 @@
+use Rattle.std.proofs.Common.{◌≤◌}
+use Rattle.lookup.specs.Searching.{IsNarrowed}
+use Rattle.lookup.proofs.finding.Search.downward.Given as goal
+
+abbrev pub invariant-loop-step : goal.invariant-loop-step
+invariant-loop-step l =
+    (l.high ≤ l.self.rows.count) × (1 ≤ l.step) × (l.step ≤ 18446744073709551614)
+    × IsNarrowed l.self.rows l.self.row.now 0 l.high
+
+abbrev pub decreases-loop-step : goal.decreases-loop-step
+decreases-loop-step l = l.high
