@@ -10,16 +10,6 @@ pub enum Failure {
     Memory,
 }
 
-impl Failure {
-    // A failure with this text.
-    pub fn told(text: Result<String, AllocError>) -> Failure {
-        match text {
-            Ok(text) => Failure::Told(text),
-            Err(_) => Failure::Memory,
-        }
-    }
-}
-
 impl fmt::Display for Failure {
     fn fmt<W: fmt::Write>(&self, f: &mut fmt::Formatter<W>) -> fmt::Result {
         match self {
