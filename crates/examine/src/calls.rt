@@ -20,8 +20,7 @@ fn print_sheet<B: Bank>(line: Line, bank: &B) -> Result<(), Failure> {
     let number = line.number;
     let count = bank.part_count();
     let text = sheet(line.rt.alloc(), bank)?;
-    println!(line.rt; "{number} sheet: parts {count}")?;
-    print!(line.rt; "{text}")?;
+    print!(line.rt; "{number} sheet: parts {count}\n{text}")?;
     Ok(())
 }
 
@@ -57,8 +56,7 @@ fn print_rows(line: Line, n: u8, source: Source) -> Result<(), Failure> {
     let rows = records(heap, &set)?;
     let count = rows.len();
     let text = rows_text(heap, n, &rows)?;
-    println!(line.rt; "{number} rows: read {count}")?;
-    print!(line.rt; "{text}")?;
+    print!(line.rt; "{number} rows: read {count}\n{text}")?;
     let mut list = vec![in heap; Row { bytes: [0; 48] }; count]?;
     let mut out = vec![in heap; 0u8; file.len()]?;
     match write_again(n, &rows, &mut list, &mut out) {
@@ -96,9 +94,7 @@ fn offer<B: Bank>(line: Line, x: &mut Examination<B>, source: Source) -> Result<
 }
 
 fn print_verdict<B: Bank>(line: Line, x: &Examination<B>) -> Result<(), Failure> {
-    let number = line.number;
-    let reads = Reads(x.verdict());
-    println!(line.rt; "{number} verdict: {reads}")?;
+    println!(line.rt; "{} verdict: {}", line.number, Reads(x.verdict()))?;
     Ok(())
 }
 
@@ -107,8 +103,7 @@ fn print_show<B: Bank>(line: Line, x: &Examination<B>) -> Result<(), Failure> {
     let wires = x.wiring().wires().len();
     let bars = x.bar_count();
     let text = show(line.rt.alloc(), x)?;
-    println!(line.rt; "{number} show: wires {wires} bars {bars}")?;
-    print!(line.rt; "{text}")?;
+    print!(line.rt; "{number} show: wires {wires} bars {bars}\n{text}")?;
     Ok(())
 }
 

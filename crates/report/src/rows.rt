@@ -1,6 +1,7 @@
 // The rows of a set, and the cells of a row.
 use crate::words::Ticks;
 use book::row::Row;
+use fddevs::part::Cell;
 use reasons::cells::cell;
 use std::alloc::{AllocError, Global};
 use std::fmt;
@@ -12,17 +13,30 @@ pub struct Cells<'a> {
     pub parts: u8,
 }
 
+// A part in a row.
+#[derive(Clone, Copy)]
+struct InRow {
+    part: u8,
+    cell: Cell,
+}
+
+impl fmt::Display for InRow {
+    fn fmt<W: fmt::Write>(&self, f: &mut fmt::Formatter<W>) -> fmt::Result {
+        let part = self.part;
+        let phase = self.cell.phase;
+        let left = Ticks(self.cell.remaining);
+        write!(f, " part {part} phase {phase} remaining {left}")
+    }
+}
+
 impl fmt::Display for Cells<'_> {
     fn fmt<W: fmt::Write>(&self, f: &mut fmt::Formatter<W>) -> fmt::Result {
-        for part in 0..self.parts {
-            if let Some(cell) = cell(self.row, part) {
-                let between = if part == 0 { "" } else { ";" };
-                let phase = cell.phase;
-                let left = Ticks(cell.remaining);
-                write!(f, "{between} part {part} phase {phase} remaining {left}")?;
-            }
-        }
-        Ok(())
+        let row = self.row;
+        let cells = (0..self.parts).filter_map(|part| cell(row, part).map(|cell| InRow {
+            part,
+            cell,
+        }));
+        f.write_joined(cells, ";")
     }
 }
 

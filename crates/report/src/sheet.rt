@@ -9,6 +9,7 @@ struct Table<'a, B: Bank> {
     heap: Global,
     bank: &'a B,
     part: u8,
+    start: u8,
     counts: Counts,
 }
 
@@ -41,40 +42,25 @@ impl<B: Bank> Table<'_, B> {
         Ok(line)
     }
 
-    // The columns are padded, and no spaces stand at the end of a line.
+    // The line that names the part, and its columns. No spaces stand at the end of a line.
     fn write(&self, out: &mut String) -> Result<(), AllocError> {
+        let part = self.part;
+        let start = self.start;
+        let Counts {
+            phases,
+            inputs,
+            outputs,
+        } = self.counts;
+        writeln!(
+            out,
+            "  part {part}: phases {phases}, inputs {inputs}, outputs {outputs}, start phase {start}"
+        )?;
         writeln!(out, "{}", self.heads()?.trim_end())?;
-        for phase in 0..self.counts.phases {
+        for phase in 0..phases {
             writeln!(out, "{}", self.row(phase)?.trim_end())?;
         }
         Ok(())
     }
-}
-
-// The line that names a part, and its table.
-fn part_table<B: Bank>(
-    heap: Global,
-    bank: &B,
-    part: u8,
-    out: &mut String,
-) -> Result<(), AllocError> {
-    let (Some(counts), Some(start)) = (bank.counts(part), bank.start(part)) else {
-        return Ok(());
-    };
-    let phases = counts.phases;
-    let inputs = counts.inputs;
-    let outputs = counts.outputs;
-    writeln!(
-        out,
-        "  part {part}: phases {phases}, inputs {inputs}, outputs {outputs}, start phase {start}"
-    )?;
-    let table = Table {
-        heap,
-        bank,
-        part,
-        counts,
-    };
-    table.write(out)
 }
 
 // Every part of a bank as a table: its counts and start, and of each phase the lifespan, the next phase, the output,
@@ -82,7 +68,16 @@ fn part_table<B: Bank>(
 pub fn sheet<B: Bank>(heap: Global, bank: &B) -> Result<String, AllocError> {
     let mut out = String::new(heap);
     for part in 0..bank.part_count() {
-        part_table(heap, bank, part, &mut out)?;
+        if let (Some(start), Some(counts)) = (bank.start(part), bank.counts(part)) {
+            let table = Table {
+                heap,
+                bank,
+                part,
+                start,
+                counts,
+            };
+            table.write(&mut out)?;
+        }
     }
     Ok(out)
 }

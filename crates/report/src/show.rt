@@ -15,6 +15,9 @@ pub struct Reads(pub Verdict);
 #[derive(Clone, Copy)]
 pub struct Conditions<'a>(pub &'a [Condition]);
 
+#[derive(Clone, Copy)]
+struct InPhase(Condition);
+
 // The end of a wire at which it begins, and the one to which it leads.
 #[derive(Clone, Copy)]
 struct Source(Wire);
@@ -32,15 +35,15 @@ impl fmt::Display for Reads {
     }
 }
 
+impl fmt::Display for InPhase {
+    fn fmt<W: fmt::Write>(&self, f: &mut fmt::Formatter<W>) -> fmt::Result {
+        write!(f, " part {} in phase {}", self.0.part, self.0.phase)
+    }
+}
+
 impl fmt::Display for Conditions<'_> {
     fn fmt<W: fmt::Write>(&self, f: &mut fmt::Formatter<W>) -> fmt::Result {
-        for (k, condition) in self.0.iter().enumerate() {
-            let between = if k == 0 { "" } else { ";" };
-            let part = condition.part;
-            let phase = condition.phase;
-            write!(f, "{between} part {part} in phase {phase}")?;
-        }
-        Ok(())
+        f.write_joined(self.0.iter().map(|condition| InPhase(*condition)), ";")
     }
 }
 
