@@ -68,19 +68,24 @@ fn moves_are_read(rt: HostRuntime) -> Result<(), Fail> {
 
 #[test]
 fn malformed_lines_say_what_was_expected(rt: HostRuntime) -> Result<(), Fail> {
-    malformed(rt.alloc(), "bank 1", Malformed::Command)?;
-    malformed(rt.alloc(), "sheet all", Malformed::NothingMore)?;
-    malformed(rt.alloc(), "timers 20", Malformed::Setting)?;
-    malformed(rt.alloc(), "timers 20/-5", Malformed::Setting)?;
-    malformed(rt.alloc(), "scheme", Malformed::Source)?;
-    malformed(rt.alloc(), "scheme hex 1 02", Malformed::HexPair)?;
-    malformed(rt.alloc(), "rows hex 01", Malformed::PartCount)?;
-    malformed(rt.alloc(), "bar 0:1 2", Malformed::Condition)?;
-    malformed(rt.alloc(), "verdict now", Malformed::NothingMore)?;
-    malformed(rt.alloc(), "follow inner", Malformed::Part)?;
-    malformed(rt.alloc(), "follow 256: inner", Malformed::Part)?;
-    malformed(rt.alloc(), "follow 0: input", Malformed::Move)?;
-    malformed(rt.alloc(), "follow 0: inner, ", Malformed::Move)
+    for (line, what) in [
+        ("bank 1", Malformed::Command),
+        ("sheet all", Malformed::NothingMore),
+        ("timers 20", Malformed::Setting),
+        ("timers 20/-5", Malformed::Setting),
+        ("scheme", Malformed::Source),
+        ("scheme hex 1 02", Malformed::HexPair),
+        ("rows hex 01", Malformed::PartCount),
+        ("bar 0:1 2", Malformed::Condition),
+        ("verdict now", Malformed::NothingMore),
+        ("follow inner", Malformed::Part),
+        ("follow 256: inner", Malformed::Part),
+        ("follow 0: input", Malformed::Move),
+        ("follow 0: inner, ", Malformed::Move),
+    ] {
+        malformed(rt.alloc(), line, what)?;
+    }
+    Ok(())
 }
 
 #[test]

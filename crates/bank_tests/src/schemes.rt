@@ -6,18 +6,16 @@ use scheme_file::vetting::vet;
 use std::test::Fail;
 
 // Two parts: one of two phases and an input, one of one phase that is due at once.
-fn two_parts() -> [u8; 30] {
-    [
-        1, 2, 0, 16, 2, 1, 1, 0, 0, 2, 1, 0, 1, 1, 255, 255, 0, 255, 1, 0, 0, 8, 1, 0, 0, 0, 0, 0,
-        0, 255,
-    ]
-}
+const TWO_PARTS: [u8; 30] = [
+    1, 2, 0, 16, 2, 1, 1, 0, 0, 2, 1, 0, 1, 1, 255, 255, 0, 255, 1, 0, 0, 8, 1, 0, 0, 0, 0, 0, 0,
+    255,
+];
 
 // The file with another byte at one place.
 fn refused(at: usize, byte: u8, refusal: Refusal) -> Result<(), Fail> {
-    let mut file = two_parts();
-    if at < 30 {
-        file[at] = byte;
+    let mut file = TWO_PARTS;
+    if let Some(place) = file.get_mut(at) {
+        *place = byte;
     }
     match vet(&file) {
         Err(found) if found == refusal => Ok(()),
@@ -27,12 +25,14 @@ fn refused(at: usize, byte: u8, refusal: Refusal) -> Result<(), Fail> {
 
 #[test]
 fn a_file_cut_at_any_byte_or_longer_is_not_whole(rt: HostRuntime) -> Result<(), Fail> {
-    let file = two_parts();
-    assert_eq!(rt; vet(&file), Ok(()));
-    for cut in 0..30usize {
-        assert_eq!(rt; vet(&file[0..cut]), Err(Refusal::NotWhole(Layer::Scheme)));
+    assert_eq!(rt; vet(&TWO_PARTS), Ok(()));
+    for cut in 0..TWO_PARTS.len() {
+        assert_eq!(rt;
+            vet(&TWO_PARTS[..cut]),
+            Err(Refusal::NotWhole(Layer::Scheme))
+        );
     }
-    let mut longer = file.to_vec(rt.alloc())?;
+    let mut longer = TWO_PARTS.to_vec(rt.alloc())?;
     longer.push(0)?;
     assert_eq!(rt; vet(&longer), Err(Refusal::NotWhole(Layer::Scheme)));
     Ok(())
@@ -40,11 +40,15 @@ fn a_file_cut_at_any_byte_or_longer_is_not_whole(rt: HostRuntime) -> Result<(), 
 
 #[test]
 fn heads_and_counts_are_refused_at_their_place(rt: HostRuntime) -> Result<(), Fail> {
-    refused(0, 2, Refusal::Version(Layer::Scheme))?;
-    refused(5, 2, Refusal::SectionLength(0))?;
-    refused(23, 1, Refusal::SectionLength(1))?;
-    refused(6, 17, Refusal::SectionCounts(0))?;
-    refused(24, 17, Refusal::SectionCounts(1))?;
+    for (at, byte, refusal) in [
+        (0, 2, Refusal::Version(Layer::Scheme)),
+        (5, 2, Refusal::SectionLength(0)),
+        (23, 1, Refusal::SectionLength(1)),
+        (6, 17, Refusal::SectionCounts(0)),
+        (24, 17, Refusal::SectionCounts(1)),
+    ] {
+        refused(at, byte, refusal)?;
+    }
     assert_eq!(rt; vet(&[1, 0]), Err(Refusal::PartCount));
     assert_eq!(rt;
         vet(&[1, 1, 0, 4, 0, 0, 0, 0]),
@@ -79,7 +83,7 @@ fn names_of_nothing_are_refused_at_their_section() -> Result<(), Fail> {
 
 #[test]
 fn a_table_bank_answers_from_its_file(rt: HostRuntime) -> Result<(), Fail> {
-    let bank = make(rt.alloc(), &two_parts())?;
+    let bank = make(rt.alloc(), &TWO_PARTS)?;
     assert_eq!(rt; bank.part_count(), 2);
     assert_eq!(rt; bank.lifespan(0, 0), Some(Span::Ticks(2)));
     assert_eq!(rt; bank.lifespan(0, 1), Some(Span::Unlimited));

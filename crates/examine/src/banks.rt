@@ -1,7 +1,7 @@
 // The lines of a session that make its bank. They come before all others.
 use crate::calls::run_calls;
 use crate::failure::Failure;
-use crate::line::Line;
+use crate::line::{Line, Session};
 use bank::idle::Idle;
 use bank::interface::Bank;
 use bank::pair;
@@ -11,14 +11,14 @@ use session::command::{Command, Malformed, Source};
 use timers::setting::Setting;
 use timers::timer_bank::TimerBank;
 
-// The banks that the lines so far have made, in the order of the lines.
+// The bank that the lines so far have made: a pair has the banks in the order of the lines.
 #[derive(Drop)]
-enum Banks {
+enum Made {
     Nothing,
     Timers(TimerBank),
     Table(TableBank),
-    TimersTable(TimerBank, TableBank),
-    TableTimers(TableBank, TimerBank),
+    TimersTable(Pair<TimerBank, TableBank>),
+    TableTimers(Pair<TableBank, TimerBank>),
 }
 
 fn make_timers(line: Line, settings: &[Setting]) -> Result<TimerBank, Failure> {
@@ -32,88 +32,64 @@ fn make_table(line: Line, source: Source) -> Result<TableBank, Failure> {
     Ok(scheme_file::table_bank::make(line.rt.alloc(), &file)?)
 }
 
-// Says so where two banks are too large to be joined.
-fn vet_pair<A: Bank, B: Bank>(line: Line, first: &A, second: &B) -> Result<(), Failure> {
-    match pair::vet(first, second) {
-        Ok(()) => Ok(()),
-        refused => line.print_vetted("pair", refused),
+// The pair of two banks. Says so where they are too large to be joined.
+fn join<A: Bank, B: Bank>(line: Line, first: A, second: B) -> Result<Pair<A, B>, Failure> {
+    let vetted = pair::vet(&first, &second);
+    if vetted.is_err() {
+        line.print_vetted("pair", vetted)?;
     }
+    Ok(Pair::new(first, second))
 }
 
-impl Banks {
-    fn with_timers(self, line: Line, settings: &[Setting]) -> Result<Banks, Failure> {
+impl Made {
+    fn with_timers(self, line: Line, settings: &[Setting]) -> Result<Made, Failure> {
         match self {
-            Banks::Nothing => Ok(Banks::Timers(make_timers(line, settings)?)),
-            Banks::Table(table) => {
+            Made::Nothing => Ok(Made::Timers(make_timers(line, settings)?)),
+            Made::Table(table) => {
                 let timers = make_timers(line, settings)?;
-                vet_pair(line, &table, &timers)?;
-                Ok(Banks::TableTimers(table, timers))
+                Ok(Made::TableTimers(join(line, table, timers)?))
             }
-            _ => Err(line.malformed(Malformed::OneOfEach)),
+            _ => line.malformed(Malformed::OneOfEach),
         }
     }
 
-    fn with_table(self, line: Line, source: Source) -> Result<Banks, Failure> {
+    fn with_table(self, line: Line, source: Source) -> Result<Made, Failure> {
         match self {
-            Banks::Nothing => Ok(Banks::Table(make_table(line, source)?)),
-            Banks::Timers(timers) => {
+            Made::Nothing => Ok(Made::Table(make_table(line, source)?)),
+            Made::Timers(timers) => {
                 let table = make_table(line, source)?;
-                vet_pair(line, &timers, &table)?;
-                Ok(Banks::TimersTable(timers, table))
+                Ok(Made::TimersTable(join(line, timers, table)?))
             }
-            _ => Err(line.malformed(Malformed::OneOfEach)),
+            _ => line.malformed(Malformed::OneOfEach),
         }
     }
 }
 
-// A session's banks, and how many lines stand before its first other line.
-#[derive(Drop)]
-struct Gathered {
-    banks: Banks,
-    passed: usize,
-}
-
-fn gather<'a>(rt: &'a HostRuntime, session: &'a str, text: &str) -> Result<Gathered, Failure> {
-    let mut banks = Banks::Nothing;
-    let mut passed = 0usize;
-    for content in text.lines() {
-        let line = Line {
-            rt,
-            session,
-            number: passed.saturating_add(1),
-        };
+// A session's bank, and how many lines stand before its first other line.
+fn gather(session: Session) -> Result<(Made, usize), Failure> {
+    let mut made = Made::Nothing;
+    let mut passed = 0;
+    for (k, content) in session.text.lines().enumerate() {
+        let line = session.line(k);
         match line.command(content)? {
             None => {}
-            Some(Command::Timers(settings)) => banks = banks.with_timers(line, &settings)?,
-            Some(Command::Scheme(source)) => banks = banks.with_table(line, source)?,
+            Some(Command::Timers(settings)) => made = made.with_timers(line, &settings)?,
+            Some(Command::Scheme(source)) => made = made.with_table(line, source)?,
             Some(_) => break,
         }
         passed = line.number;
     }
-    Ok(Gathered { banks, passed })
+    Ok((made, passed))
 }
 
 // Runs a session: its banks, then its calls on their pair, on the one bank, or on the idle bank where it names none.
-pub fn run_session<'a>(rt: &'a HostRuntime, session: &'a str, text: &str) -> Result<(), Failure> {
-    let gathered = gather(rt, session, text)?;
-    let passed = gathered.passed;
-    match gathered.banks {
-        Banks::Nothing => run_calls(rt, Idle, session, text, passed),
-        Banks::Timers(timers) => run_calls(rt, timers, session, text, passed),
-        Banks::Table(table) => run_calls(rt, table, session, text, passed),
-        Banks::TimersTable(timers, table) => run_calls(
-            rt,
-            Pair::new(timers, table),
-            session,
-            text,
-            passed,
-        ),
-        Banks::TableTimers(table, timers) => run_calls(
-            rt,
-            Pair::new(table, timers),
-            session,
-            text,
-            passed,
-        ),
+pub fn run_session(session: Session) -> Result<(), Failure> {
+    let (made, passed) = gather(session)?;
+    match made {
+        Made::Nothing => run_calls(session, Idle, passed),
+        Made::Timers(bank) => run_calls(session, bank, passed),
+        Made::Table(bank) => run_calls(session, bank, passed),
+        Made::TimersTable(bank) => run_calls(session, bank, passed),
+        Made::TableTimers(bank) => run_calls(session, bank, passed),
     }
 }

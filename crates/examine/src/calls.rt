@@ -1,16 +1,18 @@
 // The lines of a session that ask something of its bank or of the examination.
 use crate::failure::Failure;
-use crate::line::Line;
+use crate::line::{Line, Session};
 use bank::interface::Bank;
 use book::row::Row;
 use examination::examination::Examination;
 use fddevs::part::PartMove;
 use reason_text::offers::{accepted, refused};
-use report::rows::{all_rows, write_again};
+use report::rows::rows_text;
 use report::sheet::sheet;
 use report::show::{Reads, show};
 use report::trace::follow_part;
 use report::words::Refused;
+use rewriting::again::write_again;
+use rewriting::records::records;
 use session::command::{Command, Malformed, Source};
 use set_file::reader::SetReader;
 
@@ -18,8 +20,7 @@ fn print_sheet<B: Bank>(line: Line, bank: &B) -> Result<(), Failure> {
     let number = line.number;
     let count = bank.part_count();
     let text = sheet(line.rt.alloc(), bank)?;
-    println!(line.rt; "{number} sheet: parts {count}")?;
-    print!(line.rt; "{text}")?;
+    print!(line.rt; "{number} sheet: parts {count}\n{text}")?;
     Ok(())
 }
 
@@ -52,14 +53,13 @@ fn print_rows(line: Line, n: u8, source: Source) -> Result<(), Failure> {
         Ok(set) => set,
         Err(refusal) => return line.print_vetted("rows", Err(refusal)),
     };
-    let rows = all_rows(heap, &set, file.len())?;
-    let count = rows.records.len();
-    let text = rows.text;
-    println!(line.rt; "{number} rows: read {count}")?;
-    print!(line.rt; "{text}")?;
+    let rows = records(heap, &set)?;
+    let count = rows.len();
+    let text = rows_text(heap, n, &rows)?;
+    print!(line.rt; "{number} rows: read {count}\n{text}")?;
     let mut list = vec![in heap; Row { bytes: [0; 48] }; count]?;
     let mut out = vec![in heap; 0u8; file.len()]?;
-    match write_again(n, &rows.records, &mut list, &mut out) {
+    match write_again(n, &rows, &mut list, &mut out) {
         Ok(size) if out == file => println!(line.rt;
             "  written again from a book: {size} bytes, the same"
         )?,
@@ -94,9 +94,7 @@ fn offer<B: Bank>(line: Line, x: &mut Examination<B>, source: Source) -> Result<
 }
 
 fn print_verdict<B: Bank>(line: Line, x: &Examination<B>) -> Result<(), Failure> {
-    let number = line.number;
-    let reads = Reads(x.verdict());
-    println!(line.rt; "{number} verdict: {reads}")?;
+    println!(line.rt; "{} verdict: {}", line.number, Reads(x.verdict()))?;
     Ok(())
 }
 
@@ -105,8 +103,7 @@ fn print_show<B: Bank>(line: Line, x: &Examination<B>) -> Result<(), Failure> {
     let wires = x.wiring().wires().len();
     let bars = x.bar_count();
     let text = show(line.rt.alloc(), x)?;
-    println!(line.rt; "{number} show: wires {wires} bars {bars}")?;
-    print!(line.rt; "{text}")?;
+    print!(line.rt; "{number} show: wires {wires} bars {bars}\n{text}")?;
     Ok(())
 }
 
@@ -120,25 +117,15 @@ fn run_call<B: Bank>(line: Line, x: &mut Examination<B>, command: Command) -> Re
         Command::Bar(conditions) => line.print_vetted("bar", x.bar(&conditions)),
         Command::Verdict => print_verdict(line, x),
         Command::Show => print_show(line, x),
-        Command::Timers(_) | Command::Scheme(_) => Err(line.malformed(Malformed::BankFirst)),
+        Command::Timers(_) | Command::Scheme(_) => line.malformed(Malformed::BankFirst),
     }
 }
 
 // Runs the lines of a session behind the first `passed`, on an examination of the bank.
-pub fn run_calls<'a, B: Bank>(
-    rt: &'a HostRuntime,
-    bank: B,
-    session: &'a str,
-    text: &str,
-    passed: usize,
-) -> Result<(), Failure> {
+pub fn run_calls<B: Bank>(session: Session, bank: B, passed: usize) -> Result<(), Failure> {
     let mut x = Examination::new(bank);
-    for (k, content) in text.lines().enumerate().skip(passed) {
-        let line = Line {
-            rt,
-            session,
-            number: k.saturating_add(1),
-        };
+    for (k, content) in session.text.lines().enumerate().skip(passed) {
+        let line = session.line(k);
         if let Some(command) = line.command(content)? {
             run_call(line, &mut x, command)?;
         }

@@ -1,43 +1,15 @@
 // What ends a session early.
 use std::alloc::AllocError;
-use std::{fmt, io};
+use std::io;
+use thiserror::Error;
 
-#[derive(Drop)]
+#[derive(Debug, Drop, Error)]
 pub enum Failure {
     // the file, the line where there is one, and what was wrong
+    #[error("{0}")]
     Told(String),
-    Io(io::Error),
-    Memory,
-}
-
-impl Failure {
-    // A failure with this text.
-    pub fn told(text: Result<String, AllocError>) -> Failure {
-        match text {
-            Ok(text) => Failure::Told(text),
-            Err(_) => Failure::Memory,
-        }
-    }
-}
-
-impl fmt::Display for Failure {
-    fn fmt<W: fmt::Write>(&self, f: &mut fmt::Formatter<W>) -> fmt::Result {
-        match self {
-            Failure::Told(text) => f.write_str(text.as_str()),
-            Failure::Io(why) => write!(f, "{why}"),
-            Failure::Memory => f.write_str("out of memory"),
-        }
-    }
-}
-
-impl From<io::Error> for Failure {
-    fn from(e: io::Error) -> Failure {
-        Failure::Io(e)
-    }
-}
-
-impl From<AllocError> for Failure {
-    fn from(_e: AllocError) -> Failure {
-        Failure::Memory
-    }
+    #[error(transparent)]
+    Io(#[from] io::Error),
+    #[error("out of memory")]
+    Memory(#[from] AllocError),
 }

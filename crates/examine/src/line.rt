@@ -1,12 +1,19 @@
-// A line of a session that is being run.
+// A session that is being run, and a line of it.
 use crate::failure::Failure;
 use fddevs::refusal::Refusal;
 use report::words::{Refused, Rule};
 use session::command::{Command, Malformed, Source};
 use session::parse::parse;
-use std::fs;
+use std::{fmt, fs};
 
-// The name of the session, and the number of the line, counted from 1.
+#[derive(Clone, Copy)]
+pub struct Session<'a> {
+    pub rt: &'a HostRuntime,
+    pub name: &'a str,
+    pub text: &'a str,
+}
+
+// Lines are counted from 1.
 #[derive(Clone, Copy)]
 pub struct Line<'a> {
     pub rt: &'a HostRuntime,
@@ -14,37 +21,46 @@ pub struct Line<'a> {
     pub number: usize,
 }
 
+impl<'a> Session<'a> {
+    // The line behind the first k.
+    pub fn line(self, k: usize) -> Line<'a> {
+        Line {
+            rt: self.rt,
+            session: self.name,
+            number: k.saturating_add(1),
+        }
+    }
+}
+
+impl fmt::Display for Line<'_> {
+    fn fmt<W: fmt::Write>(&self, f: &mut fmt::Formatter<W>) -> fmt::Result {
+        write!(f, "{}:{}", self.session, self.number)
+    }
+}
+
 impl Line<'_> {
+    // The failure of a line, and why.
+    fn failure<T, W: fmt::Display + Drop>(self, why: W) -> Result<T, Failure> {
+        Err(Failure::Told(format!(in self.rt.alloc(); "{self}: {why}")?))
+    }
+
     // The failure of a line that is not as it should be.
-    pub fn malformed(self, what: Malformed) -> Failure {
-        let session = self.session;
-        let number = self.number;
-        let expected = what.expected();
-        Failure::told(format!(in self.rt.alloc(); "{session}:{number}: {expected}"))
+    pub fn malformed<T>(self, what: Malformed) -> Result<T, Failure> {
+        self.failure(what.expected())
     }
 
     // The command of the line, if it has one.
     pub fn command(self, text: &str) -> Result<Option<Command>, Failure> {
-        match parse(self.rt.alloc(), text) {
-            Ok(command) => Ok(command),
-            Err(what) => Err(self.malformed(what)),
-        }
+        parse(self.rt.alloc(), text).or_else(|what| self.malformed(what))
     }
 
     // The bytes of a file that the line names or writes out.
     pub fn bytes(self, source: Source) -> Result<Vec<u8>, Failure> {
         match source {
             Source::Bytes(bytes) => Ok(bytes),
-            Source::Path(path) => match fs::read(self.rt, path.as_str()) {
-                Ok(bytes) => Ok(bytes),
-                Err(why) => {
-                    let session = self.session;
-                    let number = self.number;
-                    Err(Failure::told(format!(in self.rt.alloc();
-                        "{session}:{number}: {path}: {why}"
-                    )))
-                }
-            },
+            Source::Path(path) => fs::read(self.rt, path.as_str()).or_else(|why| self.failure(
+                format_args!("{path}: {why}"),
+            )),
         }
     }
 

@@ -8,21 +8,29 @@ mod line;
 
 use crate::banks::run_session;
 use crate::failure::Failure;
+use crate::line::Session;
 use std::process::ExitCode;
 use std::{env, fs, io};
 
+fn read(rt: &HostRuntime, path: &str) -> Result<String, Failure> {
+    match fs::read_to_string(rt, path) {
+        Ok(text) => Ok(text),
+        Err(why) => Err(Failure::Told(format!(in rt.alloc(); "{path}: {why}")?)),
+    }
+}
+
 // Runs the session that the first argument names, or the one on standard input.
 fn run(rt: &HostRuntime) -> Result<(), Failure> {
-    let mut args = env::args(rt)?;
-    let _program = args.next();
-    let Some(path) = args.next() else {
-        let text = io::read_to_string(rt.alloc(), rt.stdin())?;
-        return run_session(rt, "standard input", text.as_str());
+    let path = env::args(rt)?.nth(1);
+    let text = match &path {
+        Some(path) => read(rt, path.as_str())?,
+        None => io::read_to_string(rt.alloc(), rt.stdin())?,
     };
-    match fs::read_to_string(rt, path.as_str()) {
-        Ok(text) => run_session(rt, path.as_str(), text.as_str()),
-        Err(why) => Err(Failure::told(format!(in rt.alloc(); "{path}: {why}"))),
-    }
+    run_session(Session {
+        rt,
+        name: path.as_deref().unwrap_or("standard input"),
+        text: text.as_str(),
+    })
 }
 
 fn main(rt: HostRuntime) -> ExitCode {

@@ -1,7 +1,8 @@
 // What an offer shows, or why it was refused, for people.
 #![tactic(auto)]
 
+mod offer;
 pub mod offers;
 mod rows;
 mod steps;
-mod text;
+mod words;

@@ -1,89 +1,51 @@
-// The rows of a set file, and the same rows kept in a book and written again.
+// The rows of a set, and the cells of a row.
 use crate::words::Ticks;
-use book::keeping::Book;
 use book::row::Row;
-use fddevs::part::Span;
-use fddevs::refusal::Refusal;
-use set_file::reader::SetReader;
-use set_file::writing::write;
+use fddevs::part::Cell;
+use reasons::cells::cell;
 use std::alloc::{AllocError, Global};
+use std::fmt;
 
-// The rows of a set, a line each, and their records.
-#[derive(Drop)]
-pub struct Rows {
-    pub text: String,
-    pub records: Vec<Row>,
+// The phase and the remaining of each part of a row, parted by semicolons.
+#[derive(Clone, Copy)]
+pub struct Cells<'a> {
+    pub row: &'a Row,
+    pub parts: u8,
 }
 
-fn remaining(high: u8, low: u8) -> Span {
-    match u16::from_be_bytes([high, low]) {
-        u16::MAX => Span::Unlimited,
-        ticks => Span::Ticks(ticks),
+// A part in a row.
+#[derive(Clone, Copy)]
+struct InRow {
+    part: u8,
+    cell: Cell,
+}
+
+impl fmt::Display for InRow {
+    fn fmt<W: fmt::Write>(&self, f: &mut fmt::Formatter<W>) -> fmt::Result {
+        let part = self.part;
+        let phase = self.cell.phase;
+        let left = Ticks(self.cell.remaining);
+        write!(f, " part {part} phase {phase} remaining {left}")
     }
 }
 
-// The line of row k: the phase and the remaining of each part.
-fn row_line(heap: Global, k: usize, bytes: &[u8]) -> Result<String, AllocError> {
-    let mut line = format!(in heap; "  row {k}:")?;
-    for (part, cell) in bytes.chunks(3).enumerate() {
-        if let [phase, high, low] = cell {
-            let left = Ticks(remaining(*high, *low));
-            let text = format!(in heap; " part {part} phase {phase} remaining {left};")?;
-            line.push_str(text.as_str())?;
-        }
+impl fmt::Display for Cells<'_> {
+    fn fmt<W: fmt::Write>(&self, f: &mut fmt::Formatter<W>) -> fmt::Result {
+        let row = self.row;
+        let cells = (0..self.parts).filter_map(|part| cell(row, part).map(|cell| InRow {
+            part,
+            cell,
+        }));
+        f.write_joined(cells, ";")
     }
-    Ok(line)
 }
 
-// A row's record: its bytes, and 0 beyond them.
-fn record_of(bytes: &[u8]) -> Row {
-    let mut row = [0u8; 48];
-    for (to, from) in row.iter_mut().zip(bytes) {
-        *to = *from;
-    }
-    Row { bytes: row }
-}
-
-// Every row that the reader hands out; a set of `size` bytes has no more rows than bytes.
-pub fn all_rows(heap: Global, set: &SetReader, size: usize) -> Result<Rows, AllocError> {
+// The rows of a set of so many parts, a line each.
+pub fn rows_text(heap: Global, parts: u8, rows: &[Row]) -> Result<String, AllocError> {
     let mut text = String::new(heap);
-    let mut records = Vec::new(heap);
-    for k in 0..size {
-        let Some(bytes) = set.row(k) else {
-            break;
-        };
-        let line = row_line(heap, k, bytes)?;
-        text.push_str(line.trim_end_matches(';'))?;
-        text.push_str("\n")?;
-        records.push(record_of(bytes))?;
-    }
-    Ok(Rows { text, records })
-}
-
-// The rows of a set, a line each.
-pub fn rows_text(heap: Global, set: &SetReader) -> Result<String, AllocError> {
-    let mut text = String::new(heap);
-    for k in 0..set.count() {
-        if let Some(bytes) = set.row(k) {
-            let line = row_line(heap, k, bytes)?;
-            text.push_str(line.trim_end_matches(';'))?;
-            text.push_str("\n")?;
-        }
+    for (k, row) in rows.iter().enumerate() {
+        let cells = Cells { row, parts };
+        writeln!(text, "  row {k}:{cells}")?;
     }
     Ok(text)
-}
-
-// Keeps the records in a book, the last first, and writes the set of the book into the output.
-pub fn write_again(
-    n: u8,
-    records: &[Row],
-    list: &mut [Row],
-    out: &mut [u8],
-) -> Result<usize, Refusal> {
-    let mut kept = Book::new(list);
-    for record in records.iter().rev() {
-        kept.put(*record)?;
-    }
-    let (rows, count) = kept.into_parts();
-    write(n, rows, count, out)
 }

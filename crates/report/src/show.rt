@@ -1,6 +1,6 @@
 // The wires and the bars of an examination.
 use bank::interface::Bank;
-use bars::bar::Bar;
+use bars::condition::Condition;
 use examination::examination::Examination;
 use examination::verdict::Verdict;
 use fddevs::scheme::Wire;
@@ -11,56 +11,64 @@ use std::fmt;
 #[derive(Clone, Copy)]
 pub struct Reads(pub Verdict);
 
+// The conditions of a bar, parted by semicolons.
+#[derive(Clone, Copy)]
+pub struct Conditions<'a>(pub &'a [Condition]);
+
+#[derive(Clone, Copy)]
+struct InPhase(Condition);
+
+// The end of a wire at which it begins, and the one to which it leads.
+#[derive(Clone, Copy)]
+struct Source(Wire);
+
+#[derive(Clone, Copy)]
+struct Target(Wire);
+
 impl fmt::Display for Reads {
     fn fmt<W: fmt::Write>(&self, f: &mut fmt::Formatter<W>) -> fmt::Result {
-        match self.0 {
-            Verdict::Open => f.write_str("open"),
-            Verdict::Clear => f.write_str("clear"),
-            Verdict::Reached => f.write_str("reached"),
+        f.write_str(match self.0 {
+            Verdict::Open => "open",
+            Verdict::Clear => "clear",
+            Verdict::Reached => "reached",
+        })
+    }
+}
+
+impl fmt::Display for InPhase {
+    fn fmt<W: fmt::Write>(&self, f: &mut fmt::Formatter<W>) -> fmt::Result {
+        write!(f, " part {} in phase {}", self.0.part, self.0.phase)
+    }
+}
+
+impl fmt::Display for Conditions<'_> {
+    fn fmt<W: fmt::Write>(&self, f: &mut fmt::Formatter<W>) -> fmt::Result {
+        f.write_joined(self.0.iter().map(|condition| InPhase(*condition)), ";")
+    }
+}
+
+impl fmt::Display for Source {
+    fn fmt<W: fmt::Write>(&self, f: &mut fmt::Formatter<W>) -> fmt::Result {
+        let output = self.0.output;
+        match self.0.source {
+            OUTSIDE => write!(f, "outer input {output}"),
+            part => write!(f, "part {part} output {output}"),
         }
     }
 }
 
-fn source_end(heap: Global, wire: Wire) -> Result<String, AllocError> {
-    let part = wire.source;
-    let output = wire.output;
-    if part == 255 {
-        format!(in heap; "outer input {output}")
-    } else {
-        format!(in heap; "part {part} output {output}")
+impl fmt::Display for Target {
+    fn fmt<W: fmt::Write>(&self, f: &mut fmt::Formatter<W>) -> fmt::Result {
+        let input = self.0.input;
+        match self.0.target {
+            OUTSIDE => write!(f, "outer output {input}"),
+            part => write!(f, "part {part} input {input}"),
+        }
     }
 }
 
-fn target_end(heap: Global, wire: Wire) -> Result<String, AllocError> {
-    let part = wire.target;
-    let input = wire.input;
-    if part == 255 {
-        format!(in heap; "outer output {input}")
-    } else {
-        format!(in heap; "part {part} input {input}")
-    }
-}
-
-fn wires_text(heap: Global, wires: &[Wire], out: &mut String) -> Result<(), AllocError> {
-    for (k, wire) in wires.iter().enumerate() {
-        let source = source_end(heap, *wire)?;
-        let target = target_end(heap, *wire)?;
-        let line = format!(in heap; "  wire {k:>3}: {source:<18} to {target}\n")?;
-        out.push_str(line.as_str())?;
-    }
-    Ok(())
-}
-
-fn bar_line(heap: Global, k: usize, bar: &Bar) -> Result<String, AllocError> {
-    let mut line = format!(in heap; "  bar {k:>3}:")?;
-    for condition in bar.conditions() {
-        let part = condition.part;
-        let phase = condition.phase;
-        let text = format!(in heap; " part {part} in phase {phase};")?;
-        line.push_str(text.as_str())?;
-    }
-    Ok(line)
-}
+// What stands for the outside as the end of a wire.
+const OUTSIDE: u8 = 255;
 
 // The outer inputs and outputs, a line for each wire by its ends, and a line for each bar by its conditions.
 pub fn show<B: Bank>(heap: Global, x: &Examination<B>) -> Result<String, AllocError> {
@@ -68,12 +76,15 @@ pub fn show<B: Bank>(heap: Global, x: &Examination<B>) -> Result<String, AllocEr
     let inputs = wiring.outer_inputs();
     let outputs = wiring.outer_outputs();
     let mut out = format!(in heap; "  outer inputs {inputs}, outer outputs {outputs}\n")?;
-    wires_text(heap, wiring.wires(), &mut out)?;
+    for (k, wire) in wiring.wires().iter().enumerate() {
+        let source = format!(in heap; "{}", Source(*wire))?;
+        let target = Target(*wire);
+        writeln!(out, "  wire {k:>3}: {source:<18} to {target}")?;
+    }
     for k in 0..x.bar_count() {
         if let Some(bar) = x.bar_at(k) {
-            let line = bar_line(heap, k, &bar)?;
-            out.push_str(line.trim_end_matches(';'))?;
-            out.push_str("\n")?;
+            let conditions = Conditions(bar.conditions());
+            writeln!(out, "  bar {k:>3}:{conditions}")?;
         }
     }
     Ok(out)

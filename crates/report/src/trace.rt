@@ -1,5 +1,4 @@
-ghost use Rattle.std.specs.Prelude.{◌≡◌, IfOk, Some};
-ghost use Rattle.std.specs.Option.{option_or};
+ghost use Rattle.std.specs.Prelude.{◌≡◌, IfOk};
 ghost use Rattle.report.specs.Followed.{told, stuck_in};
 
 use crate::words::{At, Sent, Step};
@@ -8,6 +7,7 @@ use fddevs::part::{Output, PartMove, PartState};
 use follow::moves::Stuck;
 use follow::steps::{begin, step};
 use std::alloc::{AllocError, Global};
+use std::fmt;
 
 // A part followed: the first move that it did not make, if any, and a line for each move.
 #[derive(Drop)]
@@ -16,38 +16,39 @@ pub struct Followed {
     pub text: String,
 }
 
-// The line of a move that was made.
-fn made_line<B: Bank>(
-    heap: Global,
-    bank: &B,
-    part: u8,
-    from: PartState,
+// A move that was made from a state of a part with this output, and the state that it led to.
+#[derive(Clone, Copy)]
+struct Made {
     a: PartMove,
+    output: Option<Output>,
     to: PartState,
-) -> Result<String, AllocError> {
-    let a_text = Step(a);
-    let to_text = At(to);
-    match (a, bank.output(part, from.phase)) {
-        (PartMove::Internal, Some(Output::Sends(output))) => format!(in heap;
-            "  {a_text}, sends {output}: {to_text}\n"
-        ),
-        _ => format!(in heap; "  {a_text}: {to_text}\n"),
+}
+
+// A move that was not made.
+#[derive(Clone, Copy)]
+struct NotMade(PartMove, Stuck);
+
+impl fmt::Display for Made {
+    fn fmt<W: fmt::Write>(&self, f: &mut fmt::Formatter<W>) -> fmt::Result {
+        let a = Step(self.a);
+        let to = At(self.to);
+        match (self.a, self.output) {
+            (PartMove::Internal, Some(Output::Sends(output))) => {
+                write!(f, "{a}, sends {output}: {to}")
+            }
+            _ => write!(f, "{a}: {to}"),
+        }
     }
 }
 
-fn stuck_line(heap: Global, a: PartMove, stuck: Stuck) -> Result<String, AllocError> {
-    let a_text = Step(a);
-    match stuck {
-        Stuck::NotAllowed => format!(in heap; "  {a_text}: not allowed\n"),
-        Stuck::TooLong => format!(in heap; "  {a_text}: more ticks than can be counted\n"),
+impl fmt::Display for NotMade {
+    fn fmt<W: fmt::Write>(&self, f: &mut fmt::Formatter<W>) -> fmt::Result {
+        let a = Step(self.0);
+        match self.1 {
+            Stuck::NotAllowed => write!(f, "{a}: not allowed"),
+            Stuck::TooLong => write!(f, "{a}: more ticks than can be counted"),
+        }
     }
-}
-
-// The first move that was not made, where move k is the latest.
-fn earlier(stuck: Option<usize>, k: usize) -> Option<usize>
-    ensures { result ≡ option_or stuck (Some k) }
-{
-    stuck.or(Some(k))
 }
 
 // Follows a part from its start; none where there is no such part. A move that is not allowed leaves the part as it is.
@@ -66,15 +67,14 @@ pub fn follow_part<B: Bank>(
     let mut stuck = None;
     for (k, a) in moves.iter().enumerate() {
         match step(bank, part, state, *a) {
-            Ok(next) => {
-                let line = made_line(heap, bank, part, state, *a, next)?;
-                text.push_str(line.as_str())?;
-                state = next;
+            Ok(to) => {
+                let output = bank.output(part, state.phase);
+                writeln!(text, "  {}", Made { a: *a, output, to })?;
+                state = to;
             }
             Err(why) => {
-                let line = stuck_line(heap, *a, why)?;
-                text.push_str(line.as_str())?;
-                stuck = earlier(stuck, k);
+                writeln!(text, "  {}", NotMade(*a, why))?;
+                stuck = stuck.or(Some(k));
             }
         }
     }

@@ -48,8 +48,11 @@ fn counted(refusal: Refusal) -> Option<&'static str> {
         ),
         Refusal::TimerTime(_) => Some("timer"),
         Refusal::WireOrder(_) | Refusal::WireTwice(_) | Refusal::WireNames(_) => Some("wire"),
-        Refusal::RowBytes(_) | Refusal::RowOrder(_, _) | Refusal::RowPhase(_) => Some("row"),
-        Refusal::RowBarred(_) | Refusal::RowLeaves(_) => Some("row"),
+        Refusal::RowBytes(_)
+        | Refusal::RowOrder(_, _)
+        | Refusal::RowPhase(_)
+        | Refusal::RowBarred(_)
+        | Refusal::RowLeaves(_) => Some("row"),
         Refusal::StepNotAllowed(_) => Some("step"),
         _ => None,
     }
@@ -105,8 +108,8 @@ impl fmt::Display for Rule {
 impl fmt::Display for Ticks {
     fn fmt<W: fmt::Write>(&self, f: &mut fmt::Formatter<W>) -> fmt::Result {
         match self.0 {
-            Span::Ticks(n) => write!(f, "{n}"),
-            Span::Unlimited => f.write_str("unlimited"),
+            Span::Ticks(n) => n.fmt(f),
+            Span::Unlimited => f.pad("unlimited"),
         }
     }
 }
@@ -114,8 +117,8 @@ impl fmt::Display for Ticks {
 impl fmt::Display for Sent {
     fn fmt<W: fmt::Write>(&self, f: &mut fmt::Formatter<W>) -> fmt::Result {
         match self.0 {
-            Output::Sends(o) => write!(f, "{o}"),
-            Output::Silent => f.write_str("-"),
+            Output::Sends(o) => o.fmt(f),
+            Output::Silent => f.pad("-"),
         }
     }
 }
@@ -145,18 +148,15 @@ impl fmt::Display for At {
         let phase = self.0.phase;
         let carried = Ticks(self.0.lifespan);
         let elapsed = self.0.elapsed;
-        match remaining(self.0) {
-            Span::Ticks(0) => write!(
-                f,
-                "phase {phase}, carried {carried}, elapsed {elapsed}, remaining 0 (due)"
-            ),
-            span => {
-                let left = Ticks(span);
-                write!(
-                    f,
-                    "phase {phase}, carried {carried}, elapsed {elapsed}, remaining {left}"
-                )
-            }
+        let left = remaining(self.0);
+        let shown = Ticks(left);
+        write!(
+            f,
+            "phase {phase}, carried {carried}, elapsed {elapsed}, remaining {shown}"
+        )?;
+        match left {
+            Span::Ticks(0) => f.write_str(" (due)"),
+            _ => Ok(()),
         }
     }
 }

@@ -1,7 +1,8 @@
 -- What a line of a session is read as. Assumes nothing.
-use Rattle.std.specs.Prelude.{◌≡◌, ℕ, Bool, true, false, cond, List, [], ◌∷◌, take, drop, Some, None, Ok, Err, codes, Option, Result, ◌==◌}
+use Rattle.std.specs.Prelude.{◌≡◌, ℕ, Bool, true, false, List, [], ◌∷◌, take, drop, Some, None, Ok, Err, codes, Option, Result, ◌==◌}
 use Rattle.std.specs.Str.{NoCharPasses, EmptyOrStartsWithPassing, EmptyOrEndsWithPassing}
 use Rattle.std.specs.Char.{is_not_whitespace}
+use Rattle.std.specs.List.{before_first}
 use Rattle.session.specs.declared.command.Malformed.{Malformed}
 use Rattle.session.specs.declared.command.Command.{Command}
 use Rattle.session.specs.declared.command.Command.TheVariants.{Timers, Scheme, Sheet, Follow, Rows, Wire, Bar, Offer, Verdict, Show}
@@ -19,8 +20,7 @@ idle (b ∷ bs) = b == 35
 
 -- what stands before the first space
 abbrev pub first_word : List ℕ → List ℕ
-first_word [] = []
-first_word (b ∷ bs) = cond (b == 32) [] (b ∷ first_word bs)
+first_word bs = before_first (λ b. b == 32) bs
 
 -- the word with which a command begins
 abbrev pub word_of : Command → List ℕ

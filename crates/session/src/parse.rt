@@ -1,4 +1,5 @@
 ghost use Rattle.std.specs.Prelude.{◌≡◌, ℕ, List, IfOk, codes};
+ghost use Rattle.std.specs.Iterator.{IsFinite};
 ghost use Rattle.session.specs.Lines.{Trimmed, idle, first_word, word_of, Reads};
 
 use crate::command::{Command, Malformed, Source};
@@ -18,84 +19,69 @@ fn first_word(text: &str) -> (&str, &str)
     }
 }
 
-fn decimal_u8(text: &str) -> Option<u8> {
-    match decimal_number(text.as_bytes())? {
-        n @ 0..=255 => Some(n as u8),
-        _ => None,
-    }
+// A decimal number of a type's range.
+fn decimal<T: TryFrom<u64> + Drop>(text: &str) -> Option<T>
+where
+    T::Error: Drop,
+{
+    T::try_from(decimal_number(text.as_bytes())?).ok()
 }
 
-fn decimal_u32(text: &str) -> Option<u32> {
-    let n = decimal_number(text.as_bytes())?;
-    if n <= u64::from(u32::MAX) {
-        Some(n as u32)
-    } else {
-        None
-    }
+// What each word is read as, or what the first that is not read should have been.
+fn list<'a, T: Drop, I: Iterator<Item = &'a str>, F: Fn(&str) -> Option<T>>(
+    heap: Global,
+    words: I,
+    read: F,
+    what: Malformed,
+) -> Result<Vec<T>, Malformed>
+    requires can_next { I.Iterator.can_next words × IsFinite (I.Iterator.remaining words) }
+    requires pre { (f : _) (x : _) → F.pre f x }
+{
+    words.map(|word| read(word).ok_or(what)).try_collect(heap)
 }
 
 fn setting(word: &str) -> Option<Setting> {
     let (operate, hold) = word.split_once('/')?;
     Some(Setting {
-        operate: decimal_number(operate.as_bytes())?,
-        hold: decimal_number(hold.as_bytes())?,
+        operate: decimal(operate)?,
+        hold: decimal(hold)?,
     })
-}
-
-fn settings(heap: Global, text: &str) -> Result<Vec<Setting>, Malformed> {
-    let mut list = Vec::new(heap);
-    for word in text.split_whitespace() {
-        list.push(setting(word).ok_or(Malformed::Setting)?)?;
-    }
-    Ok(list)
-}
-
-fn hex_bytes(heap: Global, text: &str) -> Result<Vec<u8>, Malformed> {
-    let mut bytes = Vec::new(heap);
-    for pair in text.split_whitespace() {
-        bytes.push(hex_byte(pair.as_bytes()).ok_or(Malformed::HexPair)?)?;
-    }
-    Ok(bytes)
 }
 
 // A file by its path, or its bytes behind the word hex.
 fn source(heap: Global, text: &str) -> Result<Source, Malformed> {
-    let (word, rest) = first_word(text);
-    if word == "hex" {
-        return Ok(Source::Bytes(hex_bytes(heap, rest)?));
+    match first_word(text) {
+        ("hex", rest) => {
+            let pair = |word: &str| hex_byte(word.as_bytes());
+            list(heap, rest.split_whitespace(), pair, Malformed::HexPair).map(Source::Bytes)
+        }
+        _ if text.is_empty() => Err(Malformed::Source),
+        _ => Ok(Source::Path(String::from_str(heap, text)?)),
     }
-    if text.is_empty() {
-        return Err(Malformed::Source);
-    }
-    Ok(Source::Path(String::from_str(heap, text)?))
 }
 
 fn part_move(text: &str) -> Option<PartMove> {
     let (word, rest) = first_word(text.trim());
     match word {
         "inner" if rest.is_empty() => Some(PartMove::Internal),
-        "input" => Some(PartMove::Input(decimal_u8(rest)?)),
-        "delay" => Some(PartMove::Delay(decimal_u32(rest)?)),
+        "input" => Some(PartMove::Input(decimal(rest)?)),
+        "delay" => Some(PartMove::Delay(decimal(rest)?)),
         _ => None,
     }
 }
 
 fn part_moves(heap: Global, text: &str) -> Result<Vec<PartMove>, Malformed> {
-    let mut moves = Vec::new(heap);
     if text.is_empty() {
-        return Ok(moves);
+        return Ok(Vec::new(heap));
     }
-    for word in text.split(',') {
-        moves.push(part_move(word).ok_or(Malformed::Move)?)?;
-    }
-    Ok(moves)
+    list(heap, text.split(','), part_move, Malformed::Move)
 }
 
 fn follow(heap: Global, text: &str) -> Result<Command, Malformed>
     ensures { IfOk result (λ c. word_of c ≡ codes "follow") }
 {
     let (part, moves) = text.split_once(':').ok_or(Malformed::Part)?;
-    let part = decimal_u8(part.trim()).ok_or(Malformed::Part)?;
+    let part = decimal(part.trim()).ok_or(Malformed::Part)?;
     Ok(Command::Follow(part, part_moves(heap, moves.trim())?))
 }
 
@@ -103,24 +89,16 @@ fn rows(heap: Global, text: &str) -> Result<Command, Malformed>
     ensures { IfOk result (λ c. word_of c ≡ codes "rows") }
 {
     let (count, file) = first_word(text);
-    let count = decimal_u8(count).ok_or(Malformed::PartCount)?;
+    let count = decimal(count).ok_or(Malformed::PartCount)?;
     Ok(Command::Rows(count, source(heap, file)?))
 }
 
 fn condition(word: &str) -> Option<Condition> {
     let (part, phase) = word.split_once(':')?;
     Some(Condition {
-        part: decimal_u8(part)?,
-        phase: decimal_u8(phase)?,
+        part: decimal(part)?,
+        phase: decimal(phase)?,
     })
-}
-
-fn conditions(heap: Global, text: &str) -> Result<Vec<Condition>, Malformed> {
-    let mut list = Vec::new(heap);
-    for word in text.split_whitespace() {
-        list.push(condition(word).ok_or(Malformed::Condition)?)?;
-    }
-    Ok(list)
 }
 
 fn alone(command: Command, rest: &str) -> Result<Command, Malformed>
@@ -138,15 +116,16 @@ fn command(heap: Global, line: &str) -> Result<Command, Malformed>
     ensures { IfOk result (λ c. word_of c ≡ first_word line.now) }
 {
     let (word, rest) = first_word(line);
+    let words = rest.split_whitespace();
     match word {
-        "timers" => Ok(Command::Timers(settings(heap, rest)?)),
-        "scheme" => Ok(Command::Scheme(source(heap, rest)?)),
+        "timers" => list(heap, words, setting, Malformed::Setting).map(Command::Timers),
+        "scheme" => source(heap, rest).map(Command::Scheme),
         "sheet" => alone(Command::Sheet, rest),
         "follow" => follow(heap, rest),
         "rows" => rows(heap, rest),
-        "wire" => Ok(Command::Wire(source(heap, rest)?)),
-        "offer" => Ok(Command::Offer(source(heap, rest)?)),
-        "bar" => Ok(Command::Bar(conditions(heap, rest)?)),
+        "wire" => source(heap, rest).map(Command::Wire),
+        "offer" => source(heap, rest).map(Command::Offer),
+        "bar" => list(heap, words, condition, Malformed::Condition).map(Command::Bar),
         "verdict" => alone(Command::Verdict, rest),
         "show" => alone(Command::Show, rest),
         _ => Err(Malformed::Command),
@@ -154,23 +133,20 @@ fn command(heap: Global, line: &str) -> Result<Command, Malformed>
 }
 
 // Whether a text is no command: nothing, or a comment.
-fn is_idle(text: &[u8]) -> bool
+fn is_idle(text: &str) -> bool
     ensures { result ≡ idle text.now }
 {
-    match text {
-        [] => true,
-        [b, ..] => *b == b'#',
-    }
+    text.is_empty() || text.starts_with('#')
 }
 
 // The command of a text without white space at its ends.
 fn read(heap: Global, text: &str) -> Result<Option<Command>, Malformed>
     ensures { Reads text.now result }
 {
-    if is_idle(text.as_bytes()) {
+    if is_idle(text) {
         return Ok(None);
     }
-    Ok(Some(command(heap, text)?))
+    command(heap, text).map(Some)
 }
 
 // The command of a line, or none where the line is empty or begins with #.

@@ -1,20 +1,16 @@
-use Rattle.std.proofs.Common.{Some, ◌∙◌, arith}
-use Rattle.session.proofs.Digits.{begins, goes_on, breaks_off, ends}
+use Rattle.std.proofs.Common.{◌≡◌, ℕ, List, [], ◌∷◌, length, eqb, false, Some, fold, refl, rules, ◌∙◌}
+use Rattle.std.proofs.lemmas.Bool.{false≢true}
+use Rattle.std.proofs.lemmas.Iterator.{YieldsList-from_slice}
+use Rattle.std.proofs.lemmas.Iterator.Consumers.{fold_from_yields_List}
+use Rattle.session.specs.Numerals.{more, decimal}
 use Rattle.session.proofs.numeral.decimal_number.Goals as goal
 
-pub returns-in_err-value : goal.returns-in_err-value
-returns-in_err-value c =
-    c.from_residual.ensures ∙
-    breaks_off c.args.text.now c.loop-b.b-index c.loop-b.value c.loop-b-test.true
-    c.in_err-value.ensures c.loop-b.invariant
-
-pub loop-b-init : goal.loop-b-init
-loop-b-init c = begins c.args.text.now c.if-is_empty.ensures
-
-pub loop-b-preserved : goal.loop-b-preserved
-loop-b-preserved c =
-    goes_on c.args.text.now c.loop-b.b-index c.loop-b.value (Some c.in_ok-value.value)
-    c.loop-b-test.true c.in_ok-value.ensures c.loop-b.invariant
+of_some : (bs : List ℕ) → false ≡ eqb (length bs) 0 → fold more (Some 0) bs ≡ decimal bs
+of_some [] h = absurd (false≢true h)
+of_some (b ∷ bs) h = refl
 
 pub returns : goal.returns
-returns c = ends c.args.text.now c.loop-b.b-index c.loop-b.value (omega arith) c.loop-b.invariant
+returns c =
+    fold_from_yields_List _ more (Some 0) _ c.fold.ensures.ran (YieldsList-from_slice c.args.text.now cc)
+    (λ a x b q k. search rules) ∙
+    of_some c.args.text.now c.if-is_empty.ensures
