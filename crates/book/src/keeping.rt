@@ -1,12 +1,14 @@
 ghost use Rattle.std.specs.Prelude.{◌≡◌, ◌+◌, ◌<◌, ◌≤◌, ◌++◌, length, take, drop, MatchResult};
 ghost use Rattle.std.specs.List.{insert};
-ghost use Rattle.book.specs.Order.{TotalOrder, Kept, Kept-prop};
+ghost use Rattle.book.specs.Order.{Kept, Kept-prop};
 ghost use Rattle.book.specs.Place.{place};
 ghost use Rattle.book.specs.Putting.{Puts, PutsRight};
 
+use crate::record::Record;
 use fddevs::refusal::Refusal;
 
-// A list of the caller's, whose first `count` entries are the records kept.
+// A list of the caller's, whose first `count` entries are the records kept: by a rule of the project, a book keeps them in
+// a list that it is given.
 #[derive(Drop)]
 pub struct Book<'a, T: Ord> {
     list: &'a mut [T],
@@ -14,7 +16,7 @@ pub struct Book<'a, T: Ord> {
     ghost kept: { Kept T.cmp list.now count } by { Kept-prop T.cmp list.now count },
 }
 
-// What became of a record: it was added, or it was there already.
+// What became of a record: it was added, or it was there already. A `bool` would not say which is which.
 #[derive(Clone, Copy, PartialEq, Eq, Debug)]
 pub enum Put {
     Added,
@@ -30,7 +32,7 @@ fn insert<T: Copy>(list: &mut [T], count: usize, at: usize, item: T)
     list[at] = item;
 }
 
-impl<'a, T: Ord + Copy> Book<'a, T> {
+impl<'a, T: Record> Book<'a, T> {
     // An empty book over a list.
     pub fn new(list: &'a mut [T]) -> Self
         ensures list { result.list.now ≡ list.old }
@@ -53,7 +55,7 @@ impl<'a, T: Ord + Copy> Book<'a, T> {
     // Puts a record in its place, once. A refusal leaves the book as it was.
     pub fn put(&mut self, item: T) -> Result<Put, Refusal>
         ensures puts { Puts T.cmp item self.old.list.now self.old.count result self.new.list.now self.new.count }
-        ensures right { TotalOrder T.cmp → PutsRight T.cmp item self.old.list.now self.old.count result self.new.list.now self.new.count }
+        ensures right { PutsRight T.cmp item self.old.list.now self.old.count result self.new.list.now self.new.count }
         ensures names { self.new.list.ghost_name ≡ self.old.list.ghost_name }
     {
         let at = match self.place(&item) {

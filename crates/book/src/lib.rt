@@ -3,5 +3,6 @@
 
 pub mod bytes;
 pub mod keeping;
+pub mod record;
 pub mod row;
 pub mod stimulus;

@@ -11,7 +11,8 @@ use fddevs::part::{Counts, External, Mark, Output, Span};
 use fddevs::refusal::Refusal;
 use std::test::Fail;
 
-// Two parts with sixteen unlimited phases and one input each.
+// Two parts with sixteen unlimited phases and one input each. A bank that other crates' tests shared would have to be
+// public.
 #[derive(Clone, Copy)]
 struct Dials;
 

@@ -11,7 +11,8 @@ use session::command::{Command, Malformed, Source};
 use timers::setting::Setting;
 use timers::timer_bank::TimerBank;
 
-// The bank that the lines so far have made: a pair has the banks in the order of the lines.
+// The bank that the lines so far have made: a pair has the banks in the order of the lines. Two `Option`s and an order
+// would have states that cannot be.
 #[derive(Drop)]
 enum Made {
     Nothing,
@@ -41,6 +42,7 @@ fn join<A: Bank, B: Bank>(line: Line, first: A, second: B) -> Result<Pair<A, B>,
     Ok(Pair::new(first, second))
 }
 
+// The two differ in what they are given, make and how they order it: one function of both would take four closures.
 impl Made {
     fn with_timers(self, line: Line, settings: &[Setting]) -> Result<Made, Failure> {
         match self {

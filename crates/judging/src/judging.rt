@@ -12,17 +12,15 @@ use bank::interface::Bank;
 use bars::bar::Bar;
 use fddevs::refusal::{Layer, Refusal};
 use proof_rules::evidence::Evidence;
+use set_file::layout::{BODY_LIMIT, Head, body_fits, width};
 use stepping::steps::Scheme;
 use wiring::wires::Wiring;
-
-const BODY_LIMIT: usize = 4_194_304;
 
 // Whether a body has rows of so many parts, and only whole ones.
 fn is_rows<B: Bank>(bank: &B, body: &[u8]) -> bool
     ensures { result ≡ is_rows (B.family bank.now).count body.now }
 {
-    let width = 3 * usize::from(bank.part_count());
-    1 <= body.len() && body.len() <= BODY_LIMIT && body.len() % width == 0
+    body_fits(body.len()) && body.len() % width(bank.part_count()) == 0
 }
 
 // Whether a body has only whole steps.
@@ -76,17 +74,13 @@ impl<B: Bank> Examined<'_, B> {
     fn judge_file(&self, file: &[u8]) -> Result<Evidence, Refusal>
         ensures { result ≡ judgement (B.Bank.family self.now.scheme.bank.now) (wiring_of self.now.scheme.wiring.now) (all_conditions self.now.bars.now) file.now }
     {
-        let [version, kind, a, b, c, d, body @ ..] = file else {
+        let Some(head) = Head::read(file) else {
             return Err(Refusal::NotWhole(Layer::Proof));
         };
-        let length = u32::from_be_bytes([*a, *b, *c, *d]) as usize;
-        if length != body.len() {
-            return Err(Refusal::NotWhole(Layer::Proof));
-        }
-        if *version != 1 {
+        if head.version != 1 {
             return Err(Refusal::Version(Layer::Proof));
         }
-        self.judge_body(*kind, body)
+        self.judge_body(head.kind, head.body)
     }
 }
 

@@ -14,7 +14,8 @@ use proof_rules::steps::move_of;
 use stepping::steps::start;
 
 impl<B: Bank> Examined<'_, B> {
-    // Takes the steps from the start. Each must be allowed, and the last must lead to a barred row.
+    // Takes the steps from the start. Each must be allowed, and the last must lead to a barred row. By a rule of the project,
+    // a step is split from the rest by a slice pattern, so the steps that were taken are counted beside it.
     pub(crate) fn walk(&self, body: &[u8]) -> Result<(), Refusal>
         ensures { result ≡ walk (scheme (B.Bank.family self.now.scheme.bank.now) (wiring_of self.now.scheme.wiring.now)) (all_conditions self.now.bars.now) 0 (row (start (scheme (B.Bank.family self.now.scheme.bank.now) (wiring_of self.now.scheme.wiring.now)))) body.now }
     {

@@ -1,4 +1,5 @@
-// The place of a record among the rows, by ever larger steps from a hint and then by bisection.
+// The place of a record among the rows, by ever larger steps from a hint and then by bisection. The loops are written out:
+// the rows are no slice that the library could search, and up and down differ in direction, bound and probe.
 ghost use Rattle.std.specs.Prelude.{◌≡◌, ◌<◌, ◌≤◌};
 ghost use Rattle.book.specs.Records.{byte_order};
 ghost use Rattle.set_file.specs.Layout.{front, stretch};

@@ -1,6 +1,5 @@
 // A proof file that was offered to an examination.
 use bank::interface::Bank;
-use bars::bar::Bar;
 use book::row::Row;
 use examination::examination::Examination;
 use lookup::rows::Rows;
@@ -52,20 +51,10 @@ impl<'a, B: Bank> Offer<'a, B> {
         format!(in self.heap; "  {name}:{}\n", self.cells(row))
     }
 
-    fn standing(&self) -> Result<Vec<Bar>, AllocError> {
-        let mut bars = Vec::new(self.heap);
-        for k in 0..self.x.bar_count() {
-            if let Some(bar) = self.x.bar_at(k) {
-                bars.push(bar)?;
-            }
-        }
-        Ok(bars)
-    }
-
     // The line of the first bar that holds in a row, by its conditions.
     pub fn write_held(&self, row: &Row, out: &mut String) -> Result<(), AllocError> {
-        let bars = self.standing()?;
-        if let Some(k) = holding(self.x.bank(), &bars, row)
+        let bars = self.x.bars();
+        if let Some(k) = holding(self.x.bank(), bars, row)
             && let Some(bar) = bars.get(k)
         {
             writeln!(out, "  bar {k} holds:{}", Conditions(bar.conditions()))?;

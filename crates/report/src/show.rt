@@ -3,7 +3,7 @@ use bank::interface::Bank;
 use bars::condition::Condition;
 use examination::examination::Examination;
 use examination::verdict::Verdict;
-use fddevs::scheme::Wire;
+use fddevs::scheme::{OUTSIDE, Wire};
 use std::alloc::{AllocError, Global};
 use std::fmt;
 
@@ -18,7 +18,7 @@ pub struct Conditions<'a>(pub &'a [Condition]);
 #[derive(Clone, Copy)]
 struct InPhase(Condition);
 
-// The end of a wire at which it begins, and the one to which it leads.
+// The end of a wire at which it begins, and the one to which it leads: they differ in every field and word.
 #[derive(Clone, Copy)]
 struct Source(Wire);
 
@@ -67,9 +67,6 @@ impl fmt::Display for Target {
     }
 }
 
-// What stands for the outside as the end of a wire.
-const OUTSIDE: u8 = 255;
-
 // The outer inputs and outputs, a line for each wire by its ends, and a line for each bar by its conditions.
 pub fn show<B: Bank>(heap: Global, x: &Examination<B>) -> Result<String, AllocError> {
     let wiring = x.wiring();
@@ -81,11 +78,9 @@ pub fn show<B: Bank>(heap: Global, x: &Examination<B>) -> Result<String, AllocEr
         let target = Target(*wire);
         writeln!(out, "  wire {k:>3}: {source:<18} to {target}")?;
     }
-    for k in 0..x.bar_count() {
-        if let Some(bar) = x.bar_at(k) {
-            let conditions = Conditions(bar.conditions());
-            writeln!(out, "  bar {k:>3}:{conditions}")?;
-        }
+    for (k, bar) in x.bars().iter().enumerate() {
+        let conditions = Conditions(bar.conditions());
+        writeln!(out, "  bar {k:>3}:{conditions}")?;
     }
     Ok(out)
 }

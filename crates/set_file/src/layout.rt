@@ -5,7 +5,7 @@ ghost use Rattle.set_file.specs.Layout.{some_parts, width, body_fits};
 ghost use Rattle.set_file.specs.Reading.{whole};
 ghost use Rattle.set_file.specs.Head.{IsHeadOf};
 
-// The version and the kind of a set file.
+// The version and the kind of a set file. It is the one kind that is read here: what each kind is for is said above.
 pub(crate) const VERSION: u8 = 1;
 
 pub(crate) const KIND: u8 = 1;
@@ -18,17 +18,20 @@ pub(crate) fn some_parts(n: u8) -> bool
 }
 
 // How many bytes a row of n parts has.
-pub(crate) fn width(n: u8) -> usize
+pub fn width(n: u8) -> usize
     ensures { result ≡ width n }
 {
     3 * usize::from(n)
 }
 
-// Whether a body may be this long.
-pub(crate) fn body_fits(length: usize) -> bool
+// How many bytes a body has at most.
+pub const BODY_LIMIT: usize = 4_194_304;
+
+// Whether a body of rows may be this long.
+pub fn body_fits(length: usize) -> bool
     ensures { result ≡ body_fits length }
 {
-    (1..=4_194_304).contains(&length)
+    (1..=BODY_LIMIT).contains(&length)
 }
 
 // What a file says of itself in its first two bytes, and the body behind its head.

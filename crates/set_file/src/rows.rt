@@ -9,7 +9,8 @@ use crate::layout::{some_parts, width};
 use book::row::{Row, below};
 
 // The rows of a set's body, each of `width` bytes. They are lent, not copied.
-// There are so few that twice their number is still a `usize`.
+// There are so few that twice their number is still a `usize`. For a number of parts that no row has, the width is 0 and
+// there are none: that is an answer and no error.
 #[derive(Clone, Copy)]
 pub struct Rows<'a> {
     pub(crate) body: &'a [u8],

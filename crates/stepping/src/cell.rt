@@ -7,7 +7,8 @@ ghost use Rattle.stepping.specs.Stepping.{nth_cell};
 use book::row::Row;
 use fddevs::part::{Cell, Span};
 
-// No row says that 65535 ticks remain.
+// No row says that 65535 ticks remain. That the part is below 16 is asked as it is: a type for such numbers would be made
+// at each call from the same fact.
 pub(crate) fn read(row: &Row, part: u8) -> Cell
     requires { part < 16 }
     ensures value { result ≡ nth_cell (cells_of row.now.bytes) part }

@@ -10,7 +10,7 @@ use fddevs::part::{Counts, External, Mark, Output, Span};
 use fddevs::refusal::{Layer, Refusal};
 use std::test::Fail;
 
-// One part with one phase, two inputs and one output.
+// One part with one phase, two inputs and one output. A bank that other crates' tests shared would have to be public.
 #[derive(Clone, Copy)]
 struct Gate;
 
