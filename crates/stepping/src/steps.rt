@@ -35,6 +35,39 @@ pub fn start<B: Bank>(bank: &B) -> Row
     row
 }
 
+// d ticks pass.
+pub fn delay<B: Bank>(bank: &B, d: u32, row: &mut Row)
+    ensures { cells_of row.new.bytes ≡ cells_after (B.family bank.now) no_wiring (Delay d) (cells_of row.old.bytes) }
+{
+    for part in 0..bank.part_count() {
+        let after = after_delay(read(row, part), d);
+        put(row, part, after);
+    }
+}
+
+// Whether a part may take its internal step.
+pub fn is_due<B: Bank>(bank: &B, row: &Row, part: u8) -> bool
+    ensures { result ≡ cells_allow (B.family bank.now) no_wiring (cells_of row.now.bytes) (Internal part) }
+{
+    know_row(row);
+    part < bank.part_count() && is_spent(read(row, part).remaining)
+}
+
+// Whether every part lasts for d ticks.
+fn all_last<B: Bank>(bank: &B, row: &Row, d: u32) -> bool
+    ensures { result ≡ every (λ c. lasts d c.remaining) (take (B.family bank.now).count (cells_of row.now.bytes)) }
+{
+    know_row(row);
+    (0..bank.part_count()).all(|part| read(row, part).remaining.lasts(u64::from(d)))
+}
+
+// Whether d ticks may pass.
+pub fn can_delay<B: Bank>(bank: &B, row: &Row, d: u32) -> bool
+    ensures { result ≡ cells_allow (B.family bank.now) no_wiring (cells_of row.now.bytes) (Delay d) }
+{
+    d >= 1 && all_last(bank, row, d)
+}
+
 impl<B: Bank> Scheme<'_, B> {
     // The part that a wire leads to takes its input.
     fn feed(&self, wire: Wire, row: &mut Row)
@@ -86,47 +119,14 @@ impl<B: Bank> Scheme<'_, B> {
         }
     }
 
-    // d ticks pass.
-    pub fn delay(&self, d: u32, row: &mut Row)
-        ensures { cells_of row.new.bytes ≡ cells_after (B.family self.now.bank.now) no_wiring (Delay d) (cells_of row.old.bytes) }
-    {
-        for part in 0..self.bank.part_count() {
-            let after = after_delay(read(row, part), d);
-            put(row, part, after);
-        }
-    }
-
-    // Whether a part may take its internal step.
-    pub fn is_due(&self, row: &Row, part: u8) -> bool
-        ensures { result ≡ cells_allow (B.family self.now.bank.now) no_wiring (cells_of row.now.bytes) (Internal part) }
-    {
-        know_row(row);
-        part < self.bank.part_count() && is_spent(read(row, part).remaining)
-    }
-
-    // Whether every part lasts for d ticks.
-    fn all_last(&self, row: &Row, d: u32) -> bool
-        ensures { result ≡ every (λ c. lasts d c.remaining) (take (B.family self.now.bank.now).count (cells_of row.now.bytes)) }
-    {
-        know_row(row);
-        (0..self.bank.part_count()).all(|part| read(row, part).remaining.lasts(u64::from(d)))
-    }
-
-    // Whether d ticks may pass.
-    pub fn can_delay(&self, row: &Row, d: u32) -> bool
-        ensures { result ≡ cells_allow (B.family self.now.bank.now) no_wiring (cells_of row.now.bytes) (Delay d) }
-    {
-        d >= 1 && self.all_last(row, d)
-    }
-
     // Whether the scheme allows a move.
     pub fn allows(&self, row: &Row, a: Move) -> bool
         ensures { result ≡ cells_allow (B.family self.now.bank.now) (wiring_of self.now.wiring.now) (cells_of row.now.bytes) a }
     {
         match a {
             Move::Outer(x) => x < self.wiring.outer_inputs(),
-            Move::Internal(part) => self.is_due(row, part),
-            Move::Delay(d) => self.can_delay(row, d),
+            Move::Internal(part) => is_due(self.bank, row, part),
+            Move::Delay(d) => can_delay(self.bank, row, d),
         }
     }
 
@@ -137,7 +137,7 @@ impl<B: Bank> Scheme<'_, B> {
         match a {
             Move::Outer(x) => self.outer_input(x, row),
             Move::Internal(part) => self.internal_step(part, row),
-            Move::Delay(d) => self.delay(d, row),
+            Move::Delay(d) => delay(self.bank, d, row),
         }
     }
 }

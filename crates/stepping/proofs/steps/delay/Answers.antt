@@ -3,14 +3,14 @@ use Rattle.fddevs.specs.Rows.{cell_delay}
 use Rattle.stepping.specs.RowBytes.{cells_of}
 use Rattle.stepping.proofs.Made.{made_none, made_more, made_all, map_made}
 use Rattle.stepping.proofs.Shorts.{short_delayed}
-use Rattle.stepping.proofs.steps.Scheme.delay.Goals as goal
+use Rattle.stepping.proofs.steps.delay.Goals as goal
 
 pub read-requires : goal.read-requires
-read-requires g c = omega (arith, (g.met.B.Bank.limits c.args.self.now.bank.now).few)
+read-requires g c = omega (arith, (g.met.B.Bank.limits c.args.bank.now).few)
 
 pub put-requires : goal.put-requires
 put-requires g c = record {
-  within = omega (arith, (g.met.B.Bank.limits c.args.self.now.bank.now).few);
+  within = omega (arith, (g.met.B.Bank.limits c.args.bank.now).few);
   short =
       short_delayed c.args.d c.read.result c.after_delay-after.result c.after_delay-after.ensures
       c.read.ensures.short;
@@ -29,6 +29,6 @@ loop-part-preserved g c =
 pub returns : goal.returns
 returns g c =
     let cs = cells_of c.args.row.now.bytes in
-    let n = (g.B.Bank.family c.args.self.now.bank.now).count in
+    let n = (g.B.Bank.family c.args.bank.now).count in
     made_all (λ _ d. cell_delay c.args.d d) c.loop-part.part n cs (cells_of c.loop-part.row.bytes) _
     (omega arith) c.loop-part.invariant (map_made (cell_delay c.args.d) n cs)
