@@ -18,43 +18,27 @@ impl Bank for Idle {
     }
 
     fn counts(&self, part: u8) -> Option<Counts> {
-        if part == 0 {
-            Some(Counts {
-                phases: 1,
-                inputs: 0,
-                outputs: 0,
-            })
-        } else {
-            None
-        }
+        (part == 0).then_some(Counts {
+            phases: 1,
+            inputs: 0,
+            outputs: 0,
+        })
     }
 
     fn start(&self, part: u8) -> Option<u8> {
-        if part == 0 { Some(0) } else { None }
+        (part == 0).then_some(0)
     }
 
     fn lifespan(&self, part: u8, phase: u8) -> Option<Span> {
-        if part == 0 && phase == 0 {
-            Some(Span::Unlimited)
-        } else {
-            None
-        }
+        (part == 0 && phase == 0).then_some(Span::Unlimited)
     }
 
     fn next(&self, part: u8, phase: u8) -> Option<u8> {
-        if part == 0 && phase == 0 {
-            Some(0)
-        } else {
-            None
-        }
+        (part == 0 && phase == 0).then_some(0)
     }
 
     fn output(&self, part: u8, phase: u8) -> Option<Output> {
-        if part == 0 && phase == 0 {
-            Some(Output::Silent)
-        } else {
-            None
-        }
+        (part == 0 && phase == 0).then_some(Output::Silent)
     }
 
     fn external(&self, _part: u8, _phase: u8, _input: u8) -> Option<External> {

@@ -5,7 +5,8 @@ use crate::idle::Idle;
 use crate::interface::Bank;
 use fddevs::part::{Counts, External, Output, Span};
 
-// A bank that was made as its vetting allowed, or the idle bank where its vetting refused.
+// A bank that was made as its vetting allowed, or the idle bank where its vetting refused. Each question goes to the one
+// or the other: a function for all of them would take a closure for each.
 #[derive(Drop)]
 pub struct OrIdle<B: Bank> {
     pub bank: Option<B>,

@@ -8,7 +8,8 @@ use fddevs::part::{Counts, External, Output, Span};
 use fddevs::refusal::Refusal;
 
 // Two banks joined: the second's part numbers follow the first's. Where they have more than 16 parts together, the
-// pair is the first bank alone.
+// pair is the first bank alone. Each question goes to the one or the other: a function for all of them would take two
+// closures for each.
 #[derive(Drop)]
 pub struct Pair<A: Bank, B: Bank> {
     first: A,

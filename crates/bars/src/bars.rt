@@ -4,8 +4,8 @@ use crate::bar::Bar;
 
 pub mod table;
 
-// Room for sixteen bars. How many of them stand is kept beside it, where the verdict is: by a rule of the project, bars
-// lie in plain tables.
+// Room for sixteen bars: by a rule of the project, bars lie in plain tables. How many of them stand is kept with the
+// verdict, as both change with the same calls.
 #[derive(Drop)]
 pub struct Bars {
     table: [Bar; 16],

@@ -1,5 +1,5 @@
-// Bytes are compared eight at a time, as numbers: of 24 and of 48 bytes this takes half to three quarters of the time
-// that the comparison of slices takes.
+// Bytes are compared eight at a time, as numbers: of 24 and of 48 bytes this takes about half the time that the
+// comparison of slices takes.
 ghost use Rattle.std.specs.Prelude.{◌≡◌, ◌≤◌, length};
 ghost use Rattle.book.specs.Records.{byte_order};
 ghost use Rattle.book.specs.Words.{Word};

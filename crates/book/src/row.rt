@@ -11,6 +11,11 @@ pub struct Row {
     pub bytes: [u8; 48],
 }
 
+impl Row {
+    // The row whose bytes are all 0.
+    pub const ZERO: Row = Row { bytes: [0; 48] };
+}
+
 // Whether bytes stand strictly below others.
 pub fn below(one: &[u8], other: &[u8]) -> bool
     ensures { result ≡ is_lt (byte_order one.now other.now) }

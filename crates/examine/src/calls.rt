@@ -1,4 +1,5 @@
-// The lines of a session that ask something of its bank or of the examination.
+// The lines of a session that ask something of its bank or of the examination. Some calls change the examination, some read
+// it and some take its bank alone, so it is given to each beside the line.
 use crate::failure::Failure;
 use crate::line::{Line, Session};
 use bank::interface::Bank;
@@ -55,9 +56,9 @@ fn print_rows(line: Line, n: u8, source: Source) -> Result<(), Failure> {
     };
     let rows = records(heap, &set)?;
     let count = rows.len();
-    let text = rows_text(heap, n, &rows)?;
+    let text = rows_text(heap, &set)?;
     print!(line.rt; "{number} rows: read {count}\n{text}")?;
-    let mut list = vec![in heap; Row { bytes: [0; 48] }; count]?;
+    let mut list = vec![in heap; Row::ZERO; count]?;
     let mut out = vec![in heap; 0u8; file.len()]?;
     match write_again(n, &rows, &mut list, &mut out) {
         Ok(size) if out == file => println!(line.rt;

@@ -1,10 +1,10 @@
--- What `all` and `find` give over the numbers below n.
-use Rattle.std.proofs.Common.{◌≡◌, ℕ, ◌<◌, ◌≤◌, Bool, true, false, List, get_or, Some, None, Option, sym, refl, ◌∙◌, subst, arith}
+-- What `all` and `find` give over the numbers below n, and `position` of a list.
+use Rattle.std.proofs.Common.{◌≡◌, ℕ, ◌<◌, ◌≤◌, Bool, true, false, List, length, get_or, Some, None, Option, sym, refl, ◌∙◌, subst, arith}
 use denote.Param.Members.{Mut}
 use Rattle.std.specs.declared.ops.Range.{Range}
 use Rattle.std.specs.Fn.{Called}
 use Rattle.std.specs.Iterator.{YieldsThen}
-use Rattle.std.specs.List.{FoldsTo, All, list_all, range_with_len}
+use Rattle.std.specs.List.{FoldsTo, All, AllWithin, HoldsAt, list_all, range_with_len}
 use Rattle.std.specs.Option.{MatchOption}
 use Rattle.std.proofs.iter.Yields.{nat_range_steps}
 use Rattle.std.proofs.lemmas.Bool.Decides.{same_from_decides, Decides-by_and, Decides-like}
@@ -52,3 +52,13 @@ module _ (t : ℕ → Bool) (n : ℕ) where
       r ≡ seek t 0 n
   first_is None h = sym (first_none t n (λ j l. h j (omega arith) l))
   first_is (Some i) h = sym (first_some t n i h.1 (λ j l. h.3 j (omega arith) l) h.2)
+
+-- what `position` gives of the items that fail a test
+module _ {X : Type 0} (test : X → Bool) (d : X) (xs : List X) where
+  pub first_item : (r : Option ℕ) →
+      MatchOption r (AllWithin (λ x. test x ≡ true) xs 0 (length xs))
+      (λ i. (i < length xs) × HoldsAt (λ x. test x ≡ false) xs i × AllWithin (λ x. test x ≡ true) xs 0 i) →
+      r ≡ seek (λ k. test (get_or xs k d)) 0 (length xs)
+  first_item None h = first_is (λ k. test (get_or xs k d)) (length xs) None (λ k a l. h k d a l)
+  first_item (Some i) h =
+      first_is (λ k. test (get_or xs k d)) (length xs) (Some i) (omega arith, h.0, h.1 d, λ k a l. h.2 k d a l)

@@ -21,7 +21,8 @@ impl Span {
     }
 }
 
-// A span as files write it, in two bytes: 65,535 is unlimited.
+// A span as files write it, in two bytes: 65,535 is unlimited. No lifespan is as long as that, so that none is lost when
+// it is written.
 impl From<u16> for Span {
     ghost from_gives = { λ v s. s ≡ span_of v };
 

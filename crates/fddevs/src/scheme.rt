@@ -1,4 +1,5 @@
-// What a wire has for the number of a part where it comes from outside or leads there.
+// What a wire has for the number of a part where it comes from outside or leads there. It is a number and no enum, as
+// wires are ordered, written and read by their four bytes.
 pub const OUTSIDE: u8 = 255;
 
 // A wire (coupling): from an output of the source part to an input of the target part. Where the source is outside,

@@ -1,14 +1,14 @@
 ghost use Rattle.std.specs.Prelude.{◌≡◌, nat_lt};
 ghost use Rattle.fddevs.specs.Machine.{when, has_phase};
 ghost use Rattle.fddevs.specs.Part.{begin, fresh, remaining};
-ghost use Rattle.follow.specs.Follow.{spent, within, after_delay_in, arrival_in, input_in, internal_in, moved};
+ghost use Rattle.follow.specs.Follow.{spent, after_delay_in, arrival_in, input_in, internal_in, moved};
 ghost use Rattle.follow.specs.Laws.{FollowsExactly};
 
 use crate::moves::{Arrival, Stuck};
 use bank::interface::Bank;
 use fddevs::part::{Mark, PartMove, PartState, Span};
 
-// What remains of the lifespan that a part carries.
+// What remains of the lifespan that a part carries. It is at most that lifespan, so that it fits where it is cast.
 pub fn remaining(state: PartState) -> Span
     ensures { result ≡ remaining state }
 {
@@ -42,54 +42,6 @@ fn fresh(phase: u8, lifespan: Span) -> PartState
     }
 }
 
-// A phase with its own lifespan, from the beginning.
-fn enter<B: Bank>(bank: &B, part: u8, phase: u8) -> Option<PartState>
-    ensures { result ≡ when (has_phase (B.family bank.now) part phase) (fresh ((B.family bank.now).part part) phase) }
-{
-    let lifespan = bank.lifespan(part, phase)?;
-    Some(fresh(phase, lifespan))
-}
-
-// The state in which a part begins.
-pub fn begin<B: Bank>(bank: &B, part: u8) -> Option<PartState>
-    ensures { result ≡ when (nat_lt part (B.family bank.now).count) (begin ((B.family bank.now).part part)) }
-{
-    let phase = bank.start(part)?;
-    enter(bank, part, phase)
-}
-
-// Where an input leads, with the lifespan of the phase that it leads to.
-fn arrival<B: Bank>(bank: &B, part: u8, phase: u8, input: u8) -> Option<Arrival>
-    ensures { result ≡ arrival_in (B.family bank.now) part phase input }
-{
-    let external = bank.external(part, phase, input)?;
-    let lifespan = bank.lifespan(part, external.next)?;
-    Some(Arrival { external, lifespan })
-}
-
-fn take_input<B: Bank>(bank: &B, part: u8, state: PartState, input: u8) -> Option<PartState>
-    ensures { result ≡ input_in (B.family bank.now) part state input }
-{
-    let Arrival { external, lifespan } = arrival(bank, part, state.phase, input)?;
-    match external.mark {
-        Mark::Restart => Some(fresh(external.next, lifespan)),
-        Mark::Keep => Some(PartState {
-            phase: external.next,
-            ..state
-        }),
-    }
-}
-
-fn take_internal<B: Bank>(bank: &B, part: u8, state: PartState) -> Option<PartState>
-    ensures { result ≡ internal_in (B.family bank.now) part state }
-{
-    if !is_spent(state) {
-        return None;
-    }
-    let next = bank.next(part, state.phase)?;
-    enter(bank, part, next)
-}
-
 fn take_delay(state: PartState, ticks: u32) -> Result<PartState, Stuck>
     ensures { result ≡ after_delay_in state ticks }
 {
@@ -100,14 +52,70 @@ fn take_delay(state: PartState, ticks: u32) -> Result<PartState, Stuck>
     }
 }
 
-fn make_move<B: Bank>(bank: &B, part: u8, state: PartState, a: PartMove) -> Result<PartState, Stuck>
-    ensures { result ≡ moved (B.family bank.now) part state a }
-{
-    match a {
-        PartMove::Input(input) => take_input(bank, part, state, input).ok_or(Stuck::NotAllowed),
-        PartMove::Internal => take_internal(bank, part, state).ok_or(Stuck::NotAllowed),
-        PartMove::Delay(ticks) => take_delay(state, ticks),
+// A part of a bank, by its number.
+#[derive(Drop)]
+struct Part<'a, B> {
+    bank: &'a B,
+    number: u8,
+}
+
+impl<B: Bank> Part<'_, B> {
+    // A phase with its own lifespan, from the beginning.
+    fn enter(&self, phase: u8) -> Option<PartState>
+        ensures { result ≡ when (has_phase (B.family self.now.bank.now) self.now.number phase) (fresh ((B.family self.now.bank.now).part self.now.number) phase) }
+    {
+        let lifespan = self.bank.lifespan(self.number, phase)?;
+        Some(fresh(phase, lifespan))
     }
+
+    // Where an input leads, with the lifespan of the phase that it leads to.
+    fn arrival(&self, phase: u8, input: u8) -> Option<Arrival>
+        ensures { result ≡ arrival_in (B.family self.now.bank.now) self.now.number phase input }
+    {
+        let external = self.bank.external(self.number, phase, input)?;
+        let lifespan = self.bank.lifespan(self.number, external.next)?;
+        Some(Arrival { external, lifespan })
+    }
+
+    fn take_input(&self, state: PartState, input: u8) -> Option<PartState>
+        ensures { result ≡ input_in (B.family self.now.bank.now) self.now.number state input }
+    {
+        let Arrival { external, lifespan } = self.arrival(state.phase, input)?;
+        match external.mark {
+            Mark::Restart => Some(fresh(external.next, lifespan)),
+            Mark::Keep => Some(PartState {
+                phase: external.next,
+                ..state
+            }),
+        }
+    }
+
+    fn take_internal(&self, state: PartState) -> Option<PartState>
+        ensures { result ≡ internal_in (B.family self.now.bank.now) self.now.number state }
+    {
+        if !is_spent(state) {
+            return None;
+        }
+        self.enter(self.bank.next(self.number, state.phase)?)
+    }
+
+    fn make_move(&self, state: PartState, a: PartMove) -> Result<PartState, Stuck>
+        ensures { result ≡ moved (B.family self.now.bank.now) self.now.number state a }
+    {
+        match a {
+            PartMove::Input(input) => self.take_input(state, input).ok_or(Stuck::NotAllowed),
+            PartMove::Internal => self.take_internal(state).ok_or(Stuck::NotAllowed),
+            PartMove::Delay(ticks) => take_delay(state, ticks),
+        }
+    }
+}
+
+// The state in which a part begins.
+pub fn begin<B: Bank>(bank: &B, part: u8) -> Option<PartState>
+    ensures { result ≡ when (nat_lt part (B.family bank.now).count) (begin ((B.family bank.now).part part)) }
+{
+    let part = Part { bank, number: part };
+    part.enter(bank.start(part.number)?)
 }
 
 // What comes of a move of a part: exactly the step that the formalism allows.
@@ -115,5 +123,5 @@ pub fn step<B: Bank>(bank: &B, part: u8, state: PartState, a: PartMove) -> Resul
     ensures answer { result ≡ moved (B.family bank.now) part state a }
     ensures exact { FollowsExactly (B.family bank.now) part state a result }
 {
-    make_move(bank, part, state, a)
+    Part { bank, number: part }.make_move(state, a)
 }

@@ -1,5 +1,5 @@
 -- A record that is found among the rows of a set, and one that is not.
-use Rattle.std.proofs.Common.{◌≡◌, ℕ, zero, suc, ◌*◌, ◌<◌, ◌≤◌, true, false, List, [], ◌∷◌, length, get_or, take, Ok, sym, refl, ap, ◌∙◌, subst, ⊎_elim, div-mul-le_self, arith, length-take}
+use Rattle.std.proofs.Common.{◌≡◌, ℕ, zero, suc, ◌+◌, ◌-◌, ◌*◌, ◌<◌, ◌≤◌, true, false, cond, List, [], ◌∷◌, length, get_or, take, Some, Ok, sub-one, sym, refl, ap, ◌∙◌, subst, ⊎_elim, div-mul-le_self, arith, length-take}
 use Rattle.std.specs.List.{ContainsAt as Has}
 use Rattle.std.proofs.ByRecursion.{All-take}
 use Rattle.std.proofs.lemmas.Bool.{and_from, le-leb, cond-true, cases_Bool}
@@ -9,6 +9,8 @@ use Rattle.fddevs.specs.Machine.{Family, WithinLimits}
 use Rattle.fddevs.specs.Rows.{Row}
 use Rattle.book.specs.declared.row.Row.{Row as Record}
 use Rattle.set_file.specs.Layout.{some_parts, width, front, stretch, row_count}
+use Rattle.fddevs.specs.Vetting.{seek}
+use Rattle.set_file.specs.Reading.{climbs}
 use Rattle.set_file.proofs.Seeking.{seek_passed}
 use Rattle.lookup.specs.Finding.{Rising, Here, Nowhere}
 use Rattle.lookup.specs.Shape.{Shape, shape, shape_of}
@@ -97,10 +99,16 @@ pub is_set : (F : Family) (rows : Rows) → shape rows ≡ shape_of F.count rows
     ((k : ℕ) → get_or rows.body.now k 0 < 256) → Rising rows.width rows.body.now rows.count → IsSet F rows
 is_set F rows parts bytes up = record { parts = parts; bytes = bytes_of rows.body.now bytes; rising = up }
 
--- the first row is in order
-pub first_in_order : (n : ℕ) (body : List ℕ) (j : ℕ) → j < 1 → in_order n body j ≡ true
-first_in_order n body zero h = refl
-first_in_order n body (suc j) h = absurd (omega arith)
+-- the first row out of order is the first that is not above the one before it
+module _ (n : ℕ) (body : List ℕ) where
+  later : (m a : ℕ) → 1 ≤ a → seek (in_order n body) a m ≡ seek (climbs (width n) body) a m
+  later zero a h = refl
+  later (suc m) a h =
+      rw (later_climbs n body a h) (ap (λ o. cond (climbs (width n) body a) o (Some a)) (later m (a + 1) (omega arith)))
+
+  pub first_out_of_order : (m : ℕ) → seek (in_order n body) 0 m ≡ seek (climbs (width n) body) 1 (m - 1)
+  first_out_of_order zero = refl
+  first_out_of_order (suc m) = rw sub-one (later m 1 (omega arith))
 
 -- rows that were found to ascend are a set to search
 pub set_of : (F : Family) → WithinLimits F → (body : List ℕ) (rows : Rows) → shape rows ≡ shape_of F.count body → Bytes body →

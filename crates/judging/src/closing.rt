@@ -73,7 +73,8 @@ impl<B: Bank> Members<'_, B> {
         self.has(&next, hint)
     }
 
-    // Whether the steps of a kind, as many as `count`, lead to one of the rows.
+    // Whether the steps of a kind, as many as `count`, are not allowed or lead to one of the rows. A loop and not `all`: a
+    // hint changes with each step.
     fn keeps_each<F: Fn(u8) -> Move>(
         &self,
         row: &Row,

@@ -12,7 +12,7 @@ use bank::interface::Bank;
 use bars::bar::Bar;
 use fddevs::refusal::{Layer, Refusal};
 use proof_rules::evidence::Evidence;
-use set_file::layout::{BODY_LIMIT, Head, body_fits, width};
+use set_file::layout::{BODY_LIMIT, Head, VERSION, body_fits, width};
 use stepping::steps::Scheme;
 use wiring::wires::Wiring;
 
@@ -77,7 +77,7 @@ impl<B: Bank> Examined<'_, B> {
         let Some(head) = Head::read(file) else {
             return Err(Refusal::NotWhole(Layer::Proof));
         };
-        if head.version != 1 {
+        if head.version != VERSION {
             return Err(Refusal::Version(Layer::Proof));
         }
         self.judge_body(head.kind, head.body)

@@ -10,7 +10,7 @@ use bank::interface::Bank;
 use book::row::Row;
 use stepping::known::know_row;
 
-// The phase of a part.
+// The phase of a part. As in `stepping`, that the part is below 16 is asked as it is.
 pub(crate) fn phase(row: &Row, part: u8) -> u8
     requires { part < 16 }
     ensures { result ≡ (nth_cell (cells_of row.now.bytes) part).phase }

@@ -1,5 +1,5 @@
 // A set, row by row: one pass for each number, in the order of the numbers.
-ghost use Rattle.std.specs.Prelude.{◌≡◌, ◌<◌, Ok, not, take};
+ghost use Rattle.std.specs.Prelude.{◌≡◌, ◌<◌, take};
 ghost use Rattle.fddevs.specs.Scheme.{scheme};
 ghost use Rattle.bars.specs.Bars.{barred};
 ghost use Rattle.bars.specs.Meaning.{all_conditions};
@@ -7,7 +7,7 @@ ghost use Rattle.lookup.specs.Shape.{shape, shape_of};
 ghost use Rattle.stepping.specs.RowBytes.{cells_of};
 ghost use Rattle.wiring.specs.Meaning.{wiring_of, no_wiring};
 ghost use Rattle.proof_rules.specs.Rules.{row_phases};
-ghost use Rattle.proof_rules.specs.Judging.{in_order, row_at, phases_exist, phases_vetting, order_vetting, start_vetting, bars_vetting, steps_vetting, rows_vetting};
+ghost use Rattle.proof_rules.specs.Judging.{row_at, phases_exist, phases_vetting, order_vetting, start_vetting, bars_vetting, steps_vetting, rows_vetting};
 
 use crate::barring::is_barred;
 use crate::closing::{Hints, Members};
@@ -20,9 +20,6 @@ use fddevs::refusal::{Layer, Refusal};
 use lookup::rows::Rows;
 use stepping::steps::{Scheme, start};
 
-// A record to load rows into.
-const NO_ROW: Row = Row { bytes: [0; 48] };
-
 // The rows of a set that is judged.
 #[derive(Drop)]
 struct Candidate<'a, B: Bank> {
@@ -31,12 +28,13 @@ struct Candidate<'a, B: Bank> {
     ghost parts: { shape rows ≡ shape_of (B.Bank.family bank.now).count rows.body.now },
 }
 
+// A test of row k asks that there is one: a type for such numbers would be made at each call from the same fact.
 impl<B: Bank> Candidate<'_, B> {
     fn nth(&self, k: usize) -> Row
         requires { k < self.now.rows.count }
         ensures { take (B.Bank.family self.now.bank.now).count (cells_of result.bytes) ≡ row_at (B.Bank.family self.now.bank.now).count self.now.rows.body.now k }
     {
-        let mut row = NO_ROW;
+        let mut row = Row::ZERO;
         self.rows.load(k, &mut row);
         row
     }
@@ -58,18 +56,11 @@ impl<B: Bank> Candidate<'_, B> {
         }
     }
 
-    fn is_in_order(&self, k: usize) -> bool
-        requires { k < self.now.rows.count }
-        ensures { result ≡ in_order (B.Bank.family self.now.bank.now).count self.now.rows.body.now k }
-    {
-        k == 0 || self.rows.climbs(k)
-    }
-
     // Whether every row is above the one before it.
     fn vet_order(&self) -> Result<(), Refusal>
         ensures { result ≡ order_vetting (B.Bank.family self.now.bank.now).count self.now.rows.body.now }
     {
-        match (0..self.rows.count()).find(|k| !self.is_in_order(*k)) {
+        match self.rows.first_fall() {
             None => Ok(()),
             Some(k) => Err(Refusal::RowOrder(Layer::Proof, k)),
         }
@@ -110,7 +101,7 @@ impl<B: Bank> Members<'_, B> {
     fn vet_steps(&self) -> Result<(), Refusal>
         ensures { result ≡ steps_vetting (scheme (B.Bank.family self.now.scheme.bank.now) (wiring_of self.now.scheme.wiring.now)) (B.Bank.family self.now.scheme.bank.now).count self.now.rows.body.now }
     {
-        let mut from = NO_ROW;
+        let mut from = Row::ZERO;
         let mut hints = Hints::new();
         for k in 0..self.rows.count() {
             self.rows.load(k, &mut from);

@@ -10,7 +10,7 @@ use book::row::Row;
 use set_file::rows::Rows;
 use std::cmp::Ordering;
 
-// A record that is sought among rows by its first bytes.
+// A record that is sought among rows by its first bytes. Whichever way it is sought, the answer is what `IsFound` says.
 #[derive(Clone, Copy)]
 struct Search<'a> {
     rows: Rows<'a>,

@@ -7,9 +7,10 @@ use reasons::holding::holding;
 use reasons::walking::walk_to;
 use report::rows::Cells;
 use report::show::Conditions;
+use set_file::layout::{Head, width};
 use std::alloc::{AllocError, Global};
 
-// The body is what follows the head of the file.
+// The body is what follows the head of a whole file: of another, no row and no step is told.
 #[derive(Drop)]
 pub(crate) struct Offer<'a, B: Bank> {
     pub heap: Global,
@@ -19,7 +20,10 @@ pub(crate) struct Offer<'a, B: Bank> {
 
 impl<'a, B: Bank> Offer<'a, B> {
     pub fn new(heap: Global, x: &'a Examination<B>, file: &'a [u8]) -> Self {
-        let body = file.get(6..).unwrap_or(&[]);
+        let body: &[u8] = match Head::read(file) {
+            Some(head) => head.body,
+            None => &[],
+        };
         Offer { heap, x, body }
     }
 
@@ -29,7 +33,7 @@ impl<'a, B: Bank> Offer<'a, B> {
     }
 
     pub fn row(&self, k: usize) -> Row {
-        let mut row = Row { bytes: [0; 48] };
+        let mut row = Row::ZERO;
         self.rows().load(k, &mut row);
         row
     }
@@ -40,10 +44,8 @@ impl<'a, B: Bank> Offer<'a, B> {
     }
 
     pub fn cells<'r>(&self, row: &'r Row) -> Cells<'r> {
-        Cells {
-            row,
-            parts: self.x.bank().part_count(),
-        }
+        let width = width(self.x.bank().part_count());
+        Cells(row.bytes.get(..width).unwrap_or(&row.bytes))
     }
 
     // The line of a row behind its name.

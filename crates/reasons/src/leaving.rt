@@ -25,7 +25,8 @@ pub struct Departure {
     pub to: Row,
 }
 
-// A row, and the rows that the steps from it are to lead to.
+// A row, and the rows that the steps from it are to lead to. What is promised holds where they are the rows of a set: the
+// caller's rows need not be one, so that this is said in each clause and not of the type.
 #[derive(Drop)]
 struct Leaver<'a, B> {
     scheme: Scheme<'a, B>,
@@ -51,7 +52,8 @@ impl<B: Bank> Leaver<'_, B> {
         }
     }
 
-    // The first that leads out of the steps of a kind, as many as `count`.
+    // The first that leads out of the steps of a kind, as many as `count`. A loop and not `find_map`, whose closure would
+    // join what `step` and `led_out` answer.
     fn first<F: Fn(u8) -> Move>(&self, count: u8, step: F) -> Option<Departure>
         requires { F.IsAlwaysCallable step }
         ensures { IsSet (B.Bank.family self.now.scheme.bank.now) self.now.rows.now → (m : ℕ → Step) → ((x : ℕ) (a : Step) → F.post step x a → a ≡ m x) → ((x : ℕ) → single (m x) ≡ true) → LeavesBy (scheme (B.Bank.family self.now.scheme.bank.now) (wiring_of self.now.scheme.wiring.now)) (rows_in (B.Bank.family self.now.scheme.bank.now).count self.now.rows.now.body.now) (take (B.Bank.family self.now.scheme.bank.now).count (cells_of self.now.row.now.bytes)) (B.Bank.family self.now.scheme.bank.now).count m count result }

@@ -8,7 +8,8 @@ use bank::interface::Bank;
 use book::row::Row;
 use stepping::cell::cell;
 
-// Whether a part has the phase that the row gives it.
+// Whether a part has the phase that the row gives it. `judging` asks it of the one byte that it reads for every part of every
+// row; here it is asked of the whole cell, of one row.
 fn has_its_phase<B: Bank>(bank: &B, row: &Row, part: u8) -> bool
     requires { part < (B.family bank.now).count }
     ensures { result ≡ has_its_phase (B.family bank.now) (cells_of row.now.bytes) part }
@@ -23,7 +24,7 @@ pub fn missing_phase<B: Bank>(bank: &B, row: &Row) -> Option<u8>
     (0..bank.part_count()).find(|part| !has_its_phase(bank, row, *part))
 }
 
-// Whether d ticks are at most what the row leaves to a part.
+// Whether d ticks are at most what the row leaves to a part. As in `stepping`, that it is below 16 is asked as it is.
 fn lasts_for(row: &Row, part: u8, d: u32) -> bool
     requires { part < 16 }
     ensures { result ≡ lasts_for d (cells_of row.now.bytes) part }

@@ -12,7 +12,8 @@ pub use proof_rules::steps::move_of;
 use stepping::steps::{Scheme, start};
 use wiring::wires::Wiring;
 
-fn walk<B: Bank>(bank: &B, wiring: &Wiring, body: &[u8], steps: usize) -> Row
+// The row after so many steps from the start, allowed or not, or after all that there are before bytes that are no step.
+pub fn walk_to<B: Bank>(bank: &B, wiring: &Wiring, body: &[u8], steps: usize) -> Row
     ensures { take (B.family bank.now).count (cells_of result.bytes) ≡ walked (scheme (B.family bank.now) (wiring_of wiring.now)) steps (row (start (scheme (B.family bank.now) (wiring_of wiring.now)))) body.now }
 {
     let scheme = Scheme { bank, wiring };
@@ -29,11 +30,4 @@ fn walk<B: Bank>(bank: &B, wiring: &Wiring, body: &[u8], steps: usize) -> Row
         left = rest;
     }
     row
-}
-
-// The row after so many steps from the start, allowed or not, or after all that there are before bytes that are no step.
-pub fn walk_to<B: Bank>(bank: &B, wiring: &Wiring, body: &[u8], steps: usize) -> Row
-    ensures { take (B.family bank.now).count (cells_of result.bytes) ≡ walked (scheme (B.family bank.now) (wiring_of wiring.now)) steps (row (start (scheme (B.family bank.now) (wiring_of wiring.now)))) body.now }
-{
-    walk(bank, wiring, body, steps)
 }

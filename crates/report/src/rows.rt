@@ -1,51 +1,45 @@
 // The rows of a set, and the cells of a row.
 use crate::words::Ticks;
-use book::row::Row;
-use fddevs::part::Cell;
-use reasons::cells::cell;
+use fddevs::part::Span;
+use set_file::reader::SetReader;
 use std::alloc::{AllocError, Global};
 use std::fmt;
 
-// The phase and the remaining of each part of a row, parted by semicolons.
+// The phase and the remaining of each part of a row, parted by semicolons: three bytes a part.
 #[derive(Clone, Copy)]
-pub struct Cells<'a> {
-    pub row: &'a Row,
-    pub parts: u8,
-}
+pub struct Cells<'a>(pub &'a [u8]);
 
-// A part in a row.
+// A part in a row, and its bytes.
 #[derive(Clone, Copy)]
-struct InRow {
-    part: u8,
-    cell: Cell,
-}
+struct InRow<'a>(usize, &'a [u8]);
 
-impl fmt::Display for InRow {
+impl fmt::Display for InRow<'_> {
     fn fmt<W: fmt::Write>(&self, f: &mut fmt::Formatter<W>) -> fmt::Result {
-        let part = self.part;
-        let phase = self.cell.phase;
-        let left = Ticks(self.cell.remaining);
-        write!(f, " part {part} phase {phase} remaining {left}")
+        let InRow(part, cell) = *self;
+        match cell {
+            [phase, high, low] => {
+                let left = Ticks(Span::from(u16::from_be_bytes([*high, *low])));
+                write!(f, " part {part} phase {phase} remaining {left}")
+            }
+            _ => Ok(()),
+        }
     }
 }
 
 impl fmt::Display for Cells<'_> {
     fn fmt<W: fmt::Write>(&self, f: &mut fmt::Formatter<W>) -> fmt::Result {
-        let row = self.row;
-        let cells = (0..self.parts).filter_map(|part| cell(row, part).map(|cell| InRow {
-            part,
-            cell,
-        }));
-        f.write_joined(cells, ";")
+        let cells = self.0.chunks_exact(3).enumerate();
+        f.write_joined(cells.map(|(part, cell)| InRow(part, cell)), ";")
     }
 }
 
-// The rows of a set of so many parts, a line each.
-pub fn rows_text(heap: Global, parts: u8, rows: &[Row]) -> Result<String, AllocError> {
+// The rows of a set, a line each.
+pub fn rows_text(heap: Global, set: &SetReader) -> Result<String, AllocError> {
     let mut text = String::new(heap);
-    for (k, row) in rows.iter().enumerate() {
-        let cells = Cells { row, parts };
-        writeln!(text, "  row {k}:{cells}")?;
+    for k in 0..set.count() {
+        if let Some(bytes) = set.row(k) {
+            writeln!(text, "  row {k}:{}", Cells(bytes))?;
+        }
     }
     Ok(text)
 }

@@ -1,3 +1,4 @@
+// Values of other crates, as they are printed: each has a type here, as `Display` is written for types of one's own alone.
 use fddevs::part::{External, Mark, Output, PartMove, PartState, Span};
 use fddevs::refusal::Refusal;
 use follow::steps::remaining;

@@ -1,7 +1,8 @@
 -- What the bytes of a scheme file say. A byte past the end reads as 0. Assumes nothing.
 use Rattle.std.specs.Prelude.{ℕ, zero, suc, ◌+◌, ◌*◌, cond, List, map, take, drop, nat_lt, slice_index}
 use Rattle.std.specs.List.{range_with_len}
-use Rattle.fddevs.specs.Bytes.{two_at, output_of, mark_of}
+use Rattle.fddevs.specs.Bytes.{two_at}
+pub use Rattle.fddevs.specs.Bytes.{output_of, mark_of}
 use Rattle.fddevs.specs.Machine.{Machine, Family}
 use Rattle.fddevs.specs.declared.part.Counts.{Counts}
 use Rattle.fddevs.specs.declared.part.External.{External}
@@ -10,7 +11,7 @@ use Rattle.fddevs.specs.declared.part.Span.TheVariants.{Ticks, Unlimited}
 use Rattle.scheme_file.specs.declared.section.Phase.{Phase}
 use Rattle.scheme_file.specs.declared.section.Section.{Section}
 
--- FF FF is unlimited
+-- FF FF is unlimited: of two bytes this is `span_of`, and so is every larger number here
 abbrev pub lifespan_of : ℕ → Span
 lifespan_of n = cond (nat_lt n 65535) (Ticks n) Unlimited
 

@@ -35,6 +35,7 @@ impl Scheme {
     }
 }
 
+// That the number of sections fits is proved where it is cast.
 impl Bank for Scheme {
     ghost family = { λ x. file_family x.file.items };
 
@@ -73,6 +74,7 @@ impl Bank for Scheme {
     }
 }
 
+// As in the vetting, a place in the file goes from one section to the next.
 fn read_sections(heap: Global, file: &[u8]) -> Result<Vec<Section>, AllocError>
     requires { is_ok (vetting file.now) ≡ true }
     ensures { IfOk result (λ v. v.items ≡ sections_of file.now) }

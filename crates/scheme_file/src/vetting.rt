@@ -1,11 +1,11 @@
 ghost use Rattle.std.specs.Prelude.{◌≡◌, ◌+◌, ◌*◌, ◌≤◌, true, length};
-ghost use Rattle.fddevs.specs.Vetting.{unless, Tells};
+ghost use Rattle.fddevs.specs.Vetting.{Tells};
 ghost use Rattle.fddevs.specs.declared.refusal.Layer.TheVariants.{Scheme};
 ghost use Rattle.fddevs.specs.declared.refusal.Refusal.TheVariants.{Version, PartCount};
 ghost use Rattle.scheme_file.specs.Faults.{Fault};
 ghost use Rattle.fddevs.specs.Bytes.{two_at};
 ghost use Rattle.scheme_file.specs.File.{record_at, record_size};
-ghost use Rattle.scheme_file.specs.Vetting.{whole, version_fits, count_fits, right_length, counts_fit, phase_exists, external_exists, record_exists, section_exists, passes, refusal, sections_pass, Measured, Ready, vetting};
+ghost use Rattle.scheme_file.specs.Vetting.{whole, right_length, counts_fit, phase_exists, external_exists, record_exists, section_exists, passes, refusal, sections_pass, Measured, Ready, vetting};
 
 use crate::records::{phase, record_bytes, record_size, section, two};
 use crate::section::{Phase, Section, Test};

@@ -3,7 +3,7 @@ ghost use Rattle.session.specs.Expected.{expected_text};
 
 use bars::condition::Condition;
 use fddevs::part::PartMove;
-use std::alloc::AllocError;
+use std::alloc::{AllocError, AllocFailed};
 use timers::setting::Setting;
 
 // Where a file comes from: a path, or bytes that stand in the line.
@@ -84,6 +84,12 @@ impl Malformed {
 
 impl From<AllocError> for Malformed {
     fn from(_e: AllocError) -> Malformed {
+        Malformed::Memory
+    }
+}
+
+impl<T: Drop> From<AllocFailed<T>> for Malformed {
+    fn from(_e: AllocFailed<T>) -> Malformed {
         Malformed::Memory
     }
 }

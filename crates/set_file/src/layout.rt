@@ -5,9 +5,10 @@ ghost use Rattle.set_file.specs.Layout.{some_parts, width, body_fits};
 ghost use Rattle.set_file.specs.Reading.{whole};
 ghost use Rattle.set_file.specs.Head.{IsHeadOf};
 
-// The version and the kind of a set file. It is the one kind that is read here: what each kind is for is said above.
-pub(crate) const VERSION: u8 = 1;
+// The version of a file.
+pub const VERSION: u8 = 1;
 
+// The kind of a set file. It is the one kind that is read here: what each kind is for, a proof file's reader knows.
 pub(crate) const KIND: u8 = 1;
 
 // Whether rows may have n parts.
@@ -43,7 +44,8 @@ pub struct Head<'a> {
 }
 
 impl<'a> Head<'a> {
-    // The head of a file, or none where the file is not its head and a body of the length that the head says.
+    // The head of a file, or none where the file is not its head and a body of the length that the head says. Four bytes
+    // fit a `usize`.
     pub fn read(file: &'a [u8]) -> Option<Self>
         ensures whole { is_some result ≡ whole file.now }
         ensures parts { IfSome result (IsHeadOf file.now) }

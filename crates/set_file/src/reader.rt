@@ -1,11 +1,9 @@
 // Reading a set file: it is vetted once, and then hands out its rows.
-ghost use Rattle.std.specs.Prelude.{◌≡◌, ◌-◌, length, drop};
+ghost use Rattle.std.specs.Prelude.{◌≡◌, length, drop};
 ghost use Rattle.std.specs.Option.{option_map};
 ghost use Rattle.std.specs.Result.{result_map_both};
 ghost use Rattle.std.specs.List.{slice_get};
-ghost use Rattle.fddevs.specs.Vetting.{seek};
-ghost use Rattle.set_file.specs.Layout.{row_count};
-ghost use Rattle.set_file.specs.Reading.{head_vetting, climbs, vetted, read_set};
+ghost use Rattle.set_file.specs.Reading.{head_vetting, vetted, read_set};
 
 use crate::layout::{Head, KIND, VERSION, body_fits, some_parts, width};
 use crate::rows::Rows;
@@ -41,13 +39,6 @@ fn body(n: u8, file: &[u8]) -> Result<&[u8], Refusal>
     Ok(head.body)
 }
 
-// The first row that is not above the one before it.
-fn first_fall(rows: &Rows) -> Option<usize>
-    ensures { result ≡ seek (climbs rows.now.width rows.now.body.now) 1 (row_count rows.now.width rows.now.body.now - 1) }
-{
-    (1..rows.count()).find(|&k| !rows.climbs(k))
-}
-
 impl<'a> SetReader<'a> {
     ghost use Rattle.set_file.specs.Held.{held, held_by};
 
@@ -56,7 +47,7 @@ impl<'a> SetReader<'a> {
         ensures { held_by result ≡ read_set n file.now }
     {
         let rows = Rows::new(n, body(n, file)?);
-        if let Some(k) = first_fall(&rows) {
+        if let Some(k) = rows.first_fall() {
             return Err(Refusal::RowOrder(Layer::BookAndPlayback, k));
         }
         Ok(SetReader { rows })

@@ -1,14 +1,16 @@
 // The rows of a body by their number.
-ghost use Rattle.std.specs.Prelude.{◌≡◌, ◌<◌, ◌≤◌, length, nat_lt};
+ghost use Rattle.std.specs.Prelude.{◌≡◌, ◌-◌, ◌<◌, ◌≤◌, length, nat_lt};
 ghost use Rattle.std.specs.Option.{option_map};
 ghost use Rattle.fddevs.specs.Machine.{when};
+ghost use Rattle.fddevs.specs.Vetting.{seek};
+ghost use Rattle.set_file.specs.Reading.{climbs};
 ghost use Rattle.set_file.specs.Layout.{stretch, row_count};
 ghost use Rattle.set_file.specs.Rows.{loaded, climbs_at};
 
 use crate::layout::{some_parts, width};
 use book::row::{Row, below};
 
-// The rows of a set's body, each of `width` bytes. They are lent, not copied.
+// The rows of a set's body, each of `width` bytes, and their number, which each look-up asks. They are lent, not copied.
 // There are so few that twice their number is still a `usize`. For a number of parts that no row has, the width is 0 and
 // there are none: that is an answer and no error.
 #[derive(Clone, Copy)]
@@ -82,5 +84,12 @@ impl<'a> Rows<'a> {
         ensures { result ≡ climbs_at self.now.width self.now.body.now self.now.count k }
     {
         1 <= k && k < self.count && below(self.stretch(k - 1), self.stretch(k))
+    }
+
+    // The first row that is not above the one before it.
+    pub fn first_fall(&self) -> Option<usize>
+        ensures { result ≡ seek (climbs self.now.width self.now.body.now) 1 (row_count self.now.width self.now.body.now - 1) }
+    {
+        (1..self.count).find(|&k| !self.climbs(k))
     }
 }

@@ -35,6 +35,9 @@ fn vet_size(n: u8, count: usize, size: usize) -> Result<(), Refusal>
     Ok(())
 }
 
+// The width of a row, which this and two more functions ask to be at most 48, is that of a number of parts which `vet_size`
+// tested: a type for such widths would be made at each call from the same fact.
+
 // Whether the bytes of a row beyond the first `width` are 0.
 fn clean(width: usize, row: &Row) -> bool
     requires { width ≤ 48 }
@@ -61,7 +64,7 @@ fn rises(rows: &[Row], k: usize) -> bool
     rows[k - 1] < rows[k]
 }
 
-// The first row that is not above the one before it.
+// The first row that is not above the one before it: of records, where `Rows` knows it of bytes.
 fn first_fall(rows: &[Row]) -> Option<usize>
     ensures { result ≡ seek (rises rows.now) 1 (length rows.now - 1) }
 {
@@ -108,7 +111,7 @@ fn write_rows(width: usize, rows: &[Row], out: &mut [u8])
     }
 }
 
-// The set file of these rows, each as the bytes of its first n parts.
+// The set file of these rows, each as the bytes of its first n parts. The length of the body is vetted before it is cast.
 fn write_all(n: u8, rows: &[Row], out: &mut [u8]) -> Result<usize, Refusal>
     ensures answer { result ≡ written n rows.now (length out.old) }
     ensures after { out.new ≡ left n rows.now out.old }

@@ -140,11 +140,6 @@ front_length (suc n) [] p h l = absurd (omega arith)
 front_length (suc n) (c ∷ cs) zero h l = omega arith
 front_length (suc n) (c ∷ cs) (suc p) h l = let r = front_length n cs p (omega arith) (omega arith) in omega arith
 
-pub front_bound : (n : ℕ) (cs : Row) → length (take n cs) ≤ n
-front_bound zero cs = omega arith
-front_bound (suc n) [] = omega arith
-front_bound (suc n) (c ∷ cs) = let h = front_bound n cs in omega arith
-
 -- what is asked of one part
 module _ {A : Type 0} (f : Machine → Cell → A) (none : A) where
   at_here : (ms : List Machine) (cs : Row) (p : ℕ) → p < length ms → p < length cs →

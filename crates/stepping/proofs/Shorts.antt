@@ -2,13 +2,11 @@
 use Rattle.std.proofs.Common.{◌≡◌, ℕ, ◌<◌, eqb, ltb, refl, sym, subst, ⊎_elim, arith}
 use Rattle.std.proofs.lemmas.Bool.{cases_Bool, eqb-false, ne_eqb, ltb-true}
 use Rattle.fddevs.specs.declared.part.Cell.{Cell}
-use Rattle.fddevs.specs.declared.part.Mark.{Mark}
-use Rattle.fddevs.specs.declared.part.Mark.TheVariants.{Keep, Restart}
 use Rattle.fddevs.specs.declared.part.Span.{Span}
 use Rattle.fddevs.specs.declared.part.Span.TheVariants.{Ticks, Unlimited}
 use Rattle.fddevs.specs.Machine.{Family, Short, WithinLimits}
 use Rattle.fddevs.specs.Part.{left}
-use Rattle.fddevs.specs.Rows.{cell_fresh, cell_led, cell_input, cell_delay}
+use Rattle.fddevs.specs.Rows.{cell_fresh, cell_delay}
 use Rattle.fddevs.specs.Bytes.{span_of, ticks_of}
 use Rattle.stepping.specs.Stepping.{machine}
 
@@ -28,7 +26,7 @@ left_short Unlimited d h = tt
 same_short : (c d : Cell) → c ≡ d → Short d.remaining → Short c.remaining
 same_short c d e h = let P : Cell → Type 0 = λ x. Short x.remaining in subst P (sym e) h
 
--- a cell after a delay, fresh in a phase, and after an input
+-- a cell after a delay, and fresh in a phase
 pub short_delayed : (d : ℕ) (old new : Cell) → new ≡ cell_delay d old → Short old.remaining → Short new.remaining
 short_delayed d old new e l = same_short new (cell_delay d old) e (left_short old.remaining d l)
 
@@ -40,13 +38,3 @@ module _ (F : Family) (w : WithinLimits F) (p : ℕ) (h : p < F.count) where
 
   pub short_fresh : (s : ℕ) (new : Cell) → new ≡ cell_fresh (machine F p) s → Short new.remaining
   short_fresh s new e = same_short new (cell_fresh (machine F p) s) e (lifespan_short s)
-
-  led_short : (k : Mark) (s : ℕ) (c : Cell) → Short c.remaining → Short (cell_led (machine F p) k s c).remaining
-  led_short Restart s c l = lifespan_short s
-  led_short Keep s c l = l
-
-  pub short_input : (i : ℕ) (old new : Cell) → new ≡ cell_input (machine F p) i old → Short old.remaining →
-      Short new.remaining
-  short_input i old new e l =
-      same_short new (cell_input (machine F p) i old) e
-      (led_short ((machine F p).external old.phase i).mark ((machine F p).external old.phase i).next old l)

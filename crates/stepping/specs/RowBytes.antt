@@ -2,7 +2,7 @@
 -- unlimited. Assumes nothing.
 use Rattle.std.specs.Prelude.{ℕ, ◌+◌, ◌*◌, ◌/◌, ◌%◌, ◌<◌, List, [], ◌∷◌, ◌++◌}
 use Rattle.std.specs.List.{AllByRecursion}
-use Rattle.fddevs.specs.Bytes.{span_of}
+pub use Rattle.fddevs.specs.Bytes.{span_of}
 use Rattle.fddevs.specs.declared.part.Cell.{Cell}
 use Rattle.fddevs.specs.declared.part.Span.{Span}
 use Rattle.fddevs.specs.declared.part.Span.TheVariants.{Ticks, Unlimited}

@@ -1,5 +1,5 @@
 // The cells of a row, read from its bytes and written into them.
-ghost use Rattle.std.specs.Prelude.{◌≡◌, ◌<◌, length, nat_lt, slice_set};
+ghost use Rattle.std.specs.Prelude.{◌≡◌, ◌<◌, nat_lt, slice_set};
 ghost use Rattle.fddevs.specs.Machine.{Short, when};
 ghost use Rattle.stepping.specs.RowBytes.{cells_of};
 ghost use Rattle.stepping.specs.Stepping.{nth_cell};

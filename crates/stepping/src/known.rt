@@ -1,4 +1,4 @@
-// What the type of a record says of its bytes, made known to a caller's proof. Nothing of it is left when compiled.
+// What the type of a record says of its bytes, made known to a caller's proof: it is called for that alone.
 ghost use Rattle.std.specs.Prelude.{◌≡◌, length};
 ghost use Rattle.stepping.specs.RowBytes.{Bytes};
 
@@ -12,10 +12,10 @@ fn know_bytes(bytes: &[u8]) -> Option<&u8>
 }
 
 // So it is of a record, which has 48 of them.
-pub fn know_row(row: &Row) -> u8
+pub fn know_row(row: &Row)
     ensures bytes { Bytes row.now.bytes }
     ensures whole { length row.now.bytes ≡ 48 }
 {
     know_bytes(&row.bytes);
-    row.bytes[0]
+    let _ = row.bytes[0];
 }

@@ -7,7 +7,7 @@ ghost use Rattle.stepping.specs.Stepping.{machine};
 use bank::interface::Bank;
 use fddevs::part::{Cell, Mark, Output, Span};
 
-// A part of a bank, by its number.
+// A part of a bank, by its number, stepped on its cell of a row: `follow` steps a part on its state, which says more.
 #[derive(Drop)]
 pub(crate) struct Part<'a, B: Bank> {
     pub(crate) bank: &'a B,
@@ -67,6 +67,7 @@ impl<B: Bank> Part<'_, B> {
     }
 }
 
+// The cell after a delay. What remains is at most what remained, so that it fits where it is cast.
 pub(crate) fn after_delay(cell: Cell, d: u32) -> Cell
     ensures { result ≡ cell_delay d cell }
 {

@@ -27,7 +27,7 @@ pub struct Scheme<'a, B> {
 pub fn start<B: Bank>(bank: &B) -> Row
     ensures { cells_of result.bytes ≡ start_cells (B.family bank.now) }
 {
-    let mut row = Row { bytes: [0; 48] };
+    let mut row = Row::ZERO;
     for part in 0..bank.part_count() {
         let begin = Part { bank, number: part }.begin();
         put(&mut row, part, begin);

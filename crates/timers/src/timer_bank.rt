@@ -15,6 +15,8 @@ use std::alloc::{AllocError, Global};
 // The timer bank, or the idle bank where its vetting refused.
 pub type TimerBank = OrIdle<Timers>;
 
+// Phases and inputs are numbers here as in every bank's answers. That the number of timers and their times fit is proved
+// where they are cast: a `try_from` would add an error that cannot come.
 impl Bank for Timers {
     ghost family = { λ x. timer_family x.settings.items };
 
@@ -25,23 +27,15 @@ impl Bank for Timers {
     }
 
     fn counts(&self, part: u8) -> Option<Counts> {
-        if part < self.part_count() {
-            Some(Counts {
-                phases: 4,
-                inputs: 2,
-                outputs: 2,
-            })
-        } else {
-            None
-        }
+        (part < self.part_count()).then_some(Counts {
+            phases: 4,
+            inputs: 2,
+            outputs: 2,
+        })
     }
 
     fn start(&self, part: u8) -> Option<u8> {
-        if part < self.part_count() {
-            Some(0)
-        } else {
-            None
-        }
+        (part < self.part_count()).then_some(0)
     }
 
     fn lifespan(&self, part: u8, phase: u8) -> Option<Span> {

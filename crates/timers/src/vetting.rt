@@ -14,16 +14,15 @@ impl Setting {
     }
 }
 
+// The first setting that is too long. There are at most 16, so that its number fits where it is cast.
 fn check_times(settings: &[Setting]) -> Result<(), Refusal>
     requires { count_fits settings.now ≡ true }
     ensures { result ≡ first_long settings.now }
 {
-    for (k, setting) in settings.iter().enumerate() {
-        if !setting.is_short() {
-            return Err(Refusal::TimerTime(k as u8));
-        }
+    match settings.iter().position(|setting| !setting.is_short()) {
+        None => Ok(()),
+        Some(k) => Err(Refusal::TimerTime(k as u8)),
     }
-    Ok(())
 }
 
 fn check_all(settings: &[Setting]) -> Result<(), Refusal>

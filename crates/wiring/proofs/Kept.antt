@@ -6,7 +6,7 @@ use Rattle.fddevs.specs.declared.refusal.Refusal.TheVariants.{NotWhole, Version,
 use Rattle.fddevs.specs.Machine.{Family}
 use Rattle.fddevs.specs.Scheme.{Wiring}
 use Rattle.fddevs.specs.Vetting.{then, unless, seek}
-use Rattle.fddevs.proofs.Vetting.{none_first, first_some, first_none, below_true, found_none, then_ok, tested}
+use Rattle.fddevs.proofs.Vetting.{none_first, first_none, below_true, found_none, then_ok, tested}
 use Rattle.wiring.specs.File.{is_whole, is_version_one, is_within}
 use Rattle.wiring.specs.Wires.{ascends, in_order, is_apart, all_apart}
 use Rattle.wiring.specs.Reading.{keeps, breach, kept, head_vetting, wires_vetting}
@@ -45,10 +45,6 @@ some_first t (suc n) a k e =
     (cases_Bool (t a))
 
 module _ (r : Rule) (F : Family) (W : Wiring) where
-  pub breach_found : (k : ℕ) → k < length W.wires → ((j : ℕ) → j < k → keeps r F W j ≡ true) →
-      false ≡ keeps r F W k → Some k ≡ seek (keeps r F W) 0 (length W.wires)
-  breach_found k l ahead e = sym (first_some (keeps r F W) (length W.wires) k l ahead (sym e))
-
   pub none_found : ((j : ℕ) → j < length W.wires → keeps r F W j ≡ true) →
       None ≡ seek (keeps r F W) 0 (length W.wires)
   none_found all = sym (first_none (keeps r F W) (length W.wires) all)

@@ -31,10 +31,6 @@ module _ (ws : List Wire) (up : ascends ws ≡ true) where
       (λ m. below_down s o k j (omega arith) (omega arith) (below_before s o (nth ws k) (nth ws (suc k)) (next_after k l) e))
       (λ g. let z : j ≡ suc k = omega arith in rw z e) (cases_lt j (suc k))
 
-  pub below_up : (s o k j : ℕ) → k ≤ j → j < length ws → comes_below s o (nth ws k) ≡ false → comes_below s o (nth ws j) ≡ false
-  below_up s o k j h l e =
-      ⊎_elim (λ y. absurd (both_ways _ e (below_down s o j k h l y))) (λ y. y) (cases_Bool (comes_below s o (nth ws j)))
-
   pub below_parts : (s o : ℕ) → IsPartitionedBy (comes_below s o) ws
   below_parts s o i j d h l e =
       let m : i < length ws = omega arith in

@@ -6,7 +6,7 @@ use Rattle.fddevs.specs.declared.refusal.Refusal.TheVariants.{NotWhole, Version,
 use Rattle.fddevs.specs.declared.scheme.Wire.{Wire}
 use Rattle.fddevs.specs.Machine.{Family}
 use Rattle.fddevs.specs.Scheme.{Wiring, outside}
-use Rattle.fddevs.specs.Vetting.{Vetted, then, unless, seek, found}
+use Rattle.fddevs.specs.Vetting.{Vetted, vetted, then, unless, seek, found}
 use Rattle.wiring.specs.File.{held, is_whole, is_version_one, is_within}
 use Rattle.wiring.specs.Meaning.{wiring_of}
 use Rattle.wiring.specs.Wires.{ascends, in_order, is_apart, nth}
@@ -61,8 +61,7 @@ abbrev pub vetting : Family → List ℕ → Vetted
 vetting F f = then (head_vetting f) (wires_vetting F (held f))
 
 abbrev pub accepted : Vetted → Wiring → Result Wiring Refusal
-accepted (Ok _) W = Ok W
-accepted (Err e) W = Err e
+accepted = vetted
 
 abbrev pub reading : Family → List ℕ → Result Wiring Refusal
 reading F f = accepted (vetting F f) (held f)

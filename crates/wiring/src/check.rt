@@ -1,5 +1,5 @@
 // The tests that a wiring file has to pass.
-ghost use Rattle.std.specs.Prelude.{◌≡◌, ◌<◌, ◌≤◌, true, length};
+ghost use Rattle.std.specs.Prelude.{◌≡◌, ◌<◌, true, length};
 ghost use Rattle.wiring.specs.File.{wire_count, is_whole};
 ghost use Rattle.wiring.specs.Wires.{same_start, in_order, is_apart, ascends, nth};
 ghost use Rattle.wiring.specs.Reading.{source_exists, target_exists, has_ends, keeps, breach, kept, head_vetting, wires_vetting, draft, Ready};
@@ -91,6 +91,7 @@ pub(crate) struct Draft<'a, B> {
     pub(crate) wires: &'a [Wire],
 }
 
+// A test of wire k asks that there is one: a type for such numbers would be made at each call from the same fact.
 impl<B: Bank> Draft<'_, B> {
     fn is_in_order(&self, k: usize) -> bool
         requires { k < length self.now.wires.now }

@@ -1,4 +1,4 @@
-ghost use Rattle.std.specs.Prelude.{◌≡◌, ◌≤◌, length, take};
+ghost use Rattle.std.specs.Prelude.{◌≡◌, ◌≤◌, length};
 ghost use Rattle.bars.specs.Bars.{same_bar};
 ghost use Rattle.bars.specs.Meaning.{conditions_of};
 

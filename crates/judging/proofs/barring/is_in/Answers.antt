@@ -5,9 +5,6 @@ use Rattle.stepping.proofs.Bytes.{sixteen_cells}
 use Rattle.judging.proofs.Cells.{in_there, in_past}
 use Rattle.judging.proofs.barring.is_in.Goals as goal
 
-pub phase-requires : goal.phase-requires
-phase-requires g c = omega (arith, (g.met.B.Bank.limits c.args.bank.now).few)
-
 pub returns-then-condition-part_count : goal.returns-then-condition-part_count
 returns-then-condition-part_count g c =
     let n = (g.B.Bank.family c.args.bank.now).count in

@@ -5,9 +5,6 @@ use Rattle.scheme_file.specs.Heads.{head_more, not_short}
 use Rattle.scheme_file.specs.Sound.{sound, room}
 use Rattle.scheme_file.proofs.table_bank.read_sections.Goals as goal
 
-pub bounds-file-1 : goal.bounds-file-1
-bounds-file-1 c = omega (arith, not_short c.args.file.now (sound c.args.file.now c.requires).is_whole)
-
 pub overflow_add-at : goal.overflow_add-at
 overflow_add-at c = let r = room c.args.file.now c.requires _ c.loop-k.at c.loop-k.invariant.0 (omega arith) in omega arith
 

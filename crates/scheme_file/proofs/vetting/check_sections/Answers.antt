@@ -6,9 +6,6 @@ use Rattle.scheme_file.specs.Vetting.{passes, refusal}
 use Rattle.scheme_file.specs.Heads.{head_more, inside, not_short, measured}
 use Rattle.scheme_file.proofs.vetting.check_sections.Goals as goal
 
-pub bounds-file-1 : goal.bounds-file-1
-bounds-file-1 c = omega (arith, not_short c.args.file.now c.requires.whole)
-
 pub passes-requires : goal.passes-requires
 passes-requires c =
     let f = c.args.file.now in
@@ -28,27 +25,6 @@ returns-then-not-passes c =
     (sym
     (first_some (λ k. t (head f k)) (part_count f) l.k (omega arith) l.invariant.1
     (sym (ap t l.invariant.0) ∙ sym c.if-not-passes.ensures)))
-
-pub two-requires : goal.two-requires
-two-requires c =
-    let f = c.args.file.now in
-    let l = c.loop-k in
-    omega (arith, inside f c.requires.whole l.k l.at l.invariant.0 (omega arith))
-
-pub overflow_add-at-in-loop-k : goal.overflow_add-at-in-loop-k
-overflow_add-at-in-loop-k c =
-    let f = c.args.file.now in
-    let l = c.loop-k in
-    omega (arith, inside f c.requires.whole l.k l.at l.invariant.0 (omega arith), c.two.ensures)
-
-pub loop-k-preserved : goal.loop-k-preserved
-loop-k-preserved c =
-    let f = c.args.file.now in
-    let l = c.loop-k in
-    let t = λ (h : ℕ). passes c.args.test f h in (
-      omega (arith, head_more f l.k l.at l.invariant.0, c.two.ensures),
-      below_more _ _ l.invariant.1 (sym (ap t l.invariant.0) ∙ sym c.if-not-passes.ensures),
-    )
 
 pub returns : goal.returns
 returns c =

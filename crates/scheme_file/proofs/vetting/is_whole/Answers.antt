@@ -2,9 +2,6 @@ use Rattle.std.proofs.Common.{◌+◌, sym, arith}
 use Rattle.scheme_file.specs.Heads.{head_more, past_end}
 use Rattle.scheme_file.proofs.vetting.is_whole.Goals as goal
 
-pub returns-then-file-lt2 : goal.returns-then-file-lt2
-returns-then-file-lt2 c = sym (past_end c.args.file.now 0 _ (omega arith) (omega arith))
-
 pub returns-then-file-at-lt2 : goal.returns-then-file-at-lt2
 returns-then-file-at-lt2 c =
     let f = c.args.file.now in
@@ -18,8 +15,3 @@ returns-then-at-file c =
     sym
     (past_end f (k + 1) _ (omega arith)
     (omega (arith, head_more f k c.loop-k.at c.loop-k.invariant.0, c.two.ensures)))
-
-pub loop-k-preserved : goal.loop-k-preserved
-loop-k-preserved c =
-    let f = c.args.file.now in
-    (omega (arith, head_more f c.loop-k._k c.loop-k.at c.loop-k.invariant.0, c.two.ensures), omega arith)

@@ -1,20 +1,21 @@
-use Rattle.std.proofs.Common.{length, get_or, sym, ap, arith}
+use Rattle.std.proofs.Common.{◌≡◌, true, false, Some, None, ap, rules}
+use Rattle.std.proofs.lemmas.Iterator.{YieldsList-from_slice, IsFirst-from_position}
 use Rattle.fddevs.specs.Vetting.{found}
 use Rattle.fddevs.specs.declared.refusal.Refusal.TheVariants.{TimerTime}
-use Rattle.fddevs.proofs.Vetting.{first_some, first_none}
+use Rattle.fddevs.proofs.Ranges.{first_item}
 use Rattle.timers.specs.Timers.{short, no_setting}
 use Rattle.timers.proofs.vetting.check_times.Goals as goal
 
-pub returns-then-not-is_short : goal.returns-then-not-is_short
-returns-then-not-is_short c =
-    let ts = c.args.settings.now in
-    let l = c.loop-k in
+pub returns-in-None : goal.returns-in-None
+returns-in-None c =
     ap (found TimerTime)
-    (sym (first_some (λ k. short (get_or ts k no_setting)) (length ts) l.k c.loop-k-test.true l.invariant
-    (sym c.if-not-is_short.ensures)))
+    (first_item short no_setting c.args.settings.now None
+    (IsFirst-from_position _ _ None (λ x. short x ≡ false) (λ x. short x ≡ true) c.in-None.ensures.ran
+    (YieldsList-from_slice c.args.settings.now (search rules)) (λ x q h. search rules) (λ x q h. search rules)))
 
-pub returns : goal.returns
-returns c =
-    let ts = c.args.settings.now in
+pub returns-in-Some : goal.returns-in-Some
+returns-in-Some c =
     ap (found TimerTime)
-    (sym (first_none (λ k. short (get_or ts k no_setting)) (length ts) (λ j h. c.loop-k.invariant j (omega arith))))
+    (first_item short no_setting c.args.settings.now (Some c.in-Some.k)
+    (IsFirst-from_position _ _ (Some c.in-Some.k) (λ x. short x ≡ false) (λ x. short x ≡ true) c.in-Some.ensures.ran
+    (YieldsList-from_slice c.args.settings.now (search rules)) (λ x q h. search rules) (λ x q h. search rules)))

@@ -1,12 +1,10 @@
-use Rattle.std.proofs.Common.{◌≡◌, ℕ, Bool, true, false, Some, None, ap, ◌∙◌, rules}
-use Rattle.std.proofs.lemmas.Iterator.{first_from_Range}
-use Rattle.fddevs.specs.Vetting.{found, seek}
-use Rattle.fddevs.proofs.Ranges.{first_is}
+use Rattle.std.proofs.Common.{◌-◌, sym, ap, ◌∙◌}
 use Rattle.fddevs.specs.declared.refusal.Layer.TheVariants.{Proof}
 use Rattle.fddevs.specs.declared.refusal.Refusal.TheVariants.{RowOrder}
-use Rattle.proof_rules.specs.Judging.{in_order}
-use Rattle.judging.proofs.Loaded.{count_of}
-use Rattle.judging.proofs.Members.{some_of}
+use Rattle.fddevs.specs.Vetting.{found, seek}
+use Rattle.set_file.specs.Layout.{width, row_count}
+use Rattle.set_file.specs.Reading.{climbs}
+use Rattle.judging.proofs.Members.{some_of, same_width, first_out_of_order}
 use Rattle.judging.proofs.set.Candidate.vet_order.Goals as goal
 
 pub returns-in-None : goal.returns-in-None
@@ -14,19 +12,17 @@ returns-in-None g c =
     let x = c.args.self.now in
     let F = g.B.Bank.family x.bank.now in
     let body = x.rows.body.now in
-    let t : ℕ → Bool = in_order F.count body in
+    let wide = same_width F.count (some_of F (g.met.B.Bank.limits x.bank.now)) x.rows body x.parts in
     ap (found (RowOrder Proof))
-    (first_is t c.count.result None
-    (first_from_Range _ _ _ None (λ k. t k ≡ false) (λ k. t k ≡ true) c.in-None.ensures.ran (λ k q h. search rules) (λ k q h. search rules))
-    ∙ ap (seek t 0) (c.count.ensures ∙ count_of F.count (some_of F (g.met.B.Bank.limits x.bank.now)) body x.rows x.parts))
+    (c.in-None.ensures ∙ ap (λ w. seek (climbs w body) 1 (row_count w body - 1)) wide
+    ∙ sym (first_out_of_order F.count body (row_count (width F.count) body)))
 
 pub returns-in-Some : goal.returns-in-Some
 returns-in-Some g c =
     let x = c.args.self.now in
     let F = g.B.Bank.family x.bank.now in
     let body = x.rows.body.now in
-    let t : ℕ → Bool = in_order F.count body in
+    let wide = same_width F.count (some_of F (g.met.B.Bank.limits x.bank.now)) x.rows body x.parts in
     ap (found (RowOrder Proof))
-    (first_is t c.count.result (Some c.in-Some.k)
-    (first_from_Range _ _ _ (Some c.in-Some.k) (λ k. t k ≡ false) (λ k. t k ≡ true) c.in-Some.ensures.ran (λ k q h. search rules) (λ k q h. search rules))
-    ∙ ap (seek t 0) (c.count.ensures ∙ count_of F.count (some_of F (g.met.B.Bank.limits x.bank.now)) body x.rows x.parts))
+    (c.in-Some.ensures ∙ ap (λ w. seek (climbs w body) 1 (row_count w body - 1)) wide
+    ∙ sym (first_out_of_order F.count body (row_count (width F.count) body)))

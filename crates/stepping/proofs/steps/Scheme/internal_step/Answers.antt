@@ -10,18 +10,6 @@ use Rattle.stepping.proofs.Shorts.{short_fresh}
 use Rattle.stepping.proofs.steps.Scheme.internal_step.Goals as goal
 use Rattle.stepping.proofs.steps.Scheme.internal_step.Goals.{in-Sends, in_default}
 
-pub put-requires : goal.put-requires
-put-requires g c =
-    let F = g.B.Bank.family c.args.self.now.bank.now in
-    let limits = g.met.B.Bank.limits c.args.self.now.bank.now in
-    let here : c.args.part < F.count = omega arith in
-    record {
-      within = omega (arith, limits.few);
-      short =
-          short_fresh F limits c.args.part here ((machine F c.args.part).next c.read-before.result.phase)
-          c.after_internal.result c.after_internal.ensures;
-    }
-
 pub returns-after-output : goal.returns-after-output
 returns-after-output g c =
     let F = g.B.Bank.family c.args.self.now.bank.now in

@@ -2,7 +2,7 @@ use Rattle.std.proofs.Common.{◌≡◌, ◌+◌, ◌-◌, refl, arith, rules}
 use Rattle.stepping.specs.RowBytes.{cells_of}
 use Rattle.wiring.specs.Meaning.{wiring_of}
 use Rattle.reasons.proofs.Walks.{begins, goes_on, ends_short, ends_there, ends_unread}
-use Rattle.reasons.proofs.walking.walk.Goals as goal
+use Rattle.reasons.proofs.walking.walk_to.Goals as goal
 
 pub loop-k-init : goal.loop-k-init
 loop-k-init g c = λ n e.

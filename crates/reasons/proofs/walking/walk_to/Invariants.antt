@@ -2,7 +2,7 @@ use Rattle.std.proofs.Common.{◌≡◌, ℕ, ◌+◌}
 use Rattle.stepping.specs.RowBytes.{cells_of}
 use Rattle.wiring.specs.Meaning.{wiring_of}
 use Rattle.reasons.proofs.Walks.{Ahead}
-use Rattle.reasons.proofs.walking.walk.Given as goal
+use Rattle.reasons.proofs.walking.walk_to.Given as goal
 
 abbrev pub invariant-loop-k : goal.invariant-loop-k
 invariant-loop-k g l =
