@@ -4,8 +4,8 @@ use crate::bar::Bar;
 
 pub mod table;
 
-// Room for sixteen bars: by a rule of the project, bars lie in plain tables. How many of them stand is kept with the
-// verdict, as both change with the same calls.
+// Room for sixteen bars: by rules of the project, bars lie in plain tables, and how many of them stand is kept with the
+// verdict in a record of its own.
 #[derive(Drop)]
 pub struct Bars {
     table: [Bar; 16],

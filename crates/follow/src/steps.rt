@@ -52,7 +52,8 @@ fn take_delay(state: PartState, ticks: u32) -> Result<PartState, Stuck>
     }
 }
 
-// A part of a bank, by its number.
+// A part of a bank, by its number. It is stepped on its state, which says more than the cell of a row that `stepping` steps:
+// so `is_spent` and `fresh` above are of another type than those there.
 #[derive(Drop)]
 struct Part<'a, B> {
     bank: &'a B,

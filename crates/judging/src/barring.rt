@@ -1,4 +1,5 @@
-// Whether a bar holds in a row.
+// Whether a bar holds in a row. A row is given beside its bank: many rows of one bank are made, loaded and stepped apart
+// from it.
 ghost use Rattle.std.specs.Prelude.{◌≡◌, take};
 ghost use Rattle.bars.specs.Bars.{is_in, holds, barred};
 ghost use Rattle.bars.specs.Meaning.{all_conditions};

@@ -1,4 +1,5 @@
-// The phases of a row's parts.
+// The phases of a row's parts. A row is given beside its bank: many rows of one bank are made, loaded and stepped apart
+// from it.
 ghost use Rattle.std.specs.Prelude.{◌≡◌, ◌<◌, take, nat_lt};
 ghost use Rattle.fddevs.specs.Scheme.{scheme};
 ghost use Rattle.stepping.specs.RowBytes.{cells_of};

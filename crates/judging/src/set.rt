@@ -46,7 +46,8 @@ impl<B: Bank> Candidate<'_, B> {
         all_exist(self.bank, &self.nth(k))
     }
 
-    // Whether the parts have the phases of every row.
+    // Whether the parts have the phases of every row. That a vetting passes where its search finds nothing is said by a `match`
+    // here and in the other vettings: a function for it would take a closure.
     fn vet_phases(&self) -> Result<(), Refusal>
         ensures { result ≡ phases_vetting (scheme (B.Bank.family self.now.bank.now) no_wiring).parts (B.Bank.family self.now.bank.now).count self.now.rows.body.now }
     {
@@ -97,7 +98,8 @@ impl<B: Bank> Members<'_, B> {
         }
     }
 
-    // Whether every single step from every row leads to one of the rows.
+    // Whether every single step from every row leads to one of the rows. A loop and not `find`: the record that is loaded
+    // and the hints change with each row.
     fn vet_steps(&self) -> Result<(), Refusal>
         ensures { result ≡ steps_vetting (scheme (B.Bank.family self.now.scheme.bank.now) (wiring_of self.now.scheme.wiring.now)) (B.Bank.family self.now.scheme.bank.now).count self.now.rows.body.now }
     {

@@ -32,6 +32,7 @@ impl<'a, B: Bank> Offer<'a, B> {
         Rows::new(self.x.bank().part_count(), self.body)
     }
 
+    // Row k of the body, or zeros. In `judging` it is asked that there is one, and promised which it is.
     pub fn row(&self, k: usize) -> Row {
         let mut row = Row::ZERO;
         self.rows().load(k, &mut row);

@@ -1,4 +1,4 @@
-// A step in plain words.
+// A step in plain words: a type around it, as `Display` is written for types of one's own alone.
 use fddevs::scheme::Move;
 use std::fmt;
 

@@ -1,4 +1,4 @@
-// The first bar that holds in a row.
+// The first bar that holds in a row. As everywhere, the row is given beside its bank.
 ghost use Rattle.std.specs.Prelude.{◌≡◌, length, take};
 ghost use Rattle.fddevs.specs.Vetting.{seek};
 ghost use Rattle.bars.specs.Bars.{holds};

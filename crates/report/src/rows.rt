@@ -5,7 +5,8 @@ use set_file::reader::SetReader;
 use std::alloc::{AllocError, Global};
 use std::fmt;
 
-// The phase and the remaining of each part of a row, parted by semicolons: three bytes a part.
+// The phase and the remaining of each part of a row, parted by semicolons: three bytes a part. They are lent by a set or a
+// record and are split here, where `stepping` reads a record by the number of a part.
 #[derive(Clone, Copy)]
 pub struct Cells<'a>(pub &'a [u8]);
 
@@ -33,7 +34,8 @@ impl fmt::Display for Cells<'_> {
     }
 }
 
-// The rows of a set, a line each.
+// The rows of a set, a line each. A set hands its rows out by their numbers: an iterator of them would need ghost members
+// of its own.
 pub fn rows_text(heap: Global, set: &SetReader) -> Result<String, AllocError> {
     let mut text = String::new(heap);
     for k in 0..set.count() {

@@ -23,7 +23,8 @@ impl<B: Bank> Table<'_, B> {
         Ok(line)
     }
 
-    // The line of a phase.
+    // The line of a phase. Where a text of two pieces is padded as a whole it is made first: a width is kept by a `Display`
+    // of one piece alone.
     fn row(&self, phase: u8) -> Result<String, AllocError> {
         let bank = self.bank;
         let part = self.part;

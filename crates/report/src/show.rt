@@ -7,7 +7,7 @@ use fddevs::scheme::{OUTSIDE, Wire};
 use std::alloc::{AllocError, Global};
 use std::fmt;
 
-// A verdict as a session prints it.
+// A verdict as a session prints it. Here too values of other crates have a type each, as in `words`.
 #[derive(Clone, Copy)]
 pub struct Reads(pub Verdict);
 
@@ -68,6 +68,7 @@ impl fmt::Display for Target {
 }
 
 // The outer inputs and outputs, a line for each wire by its ends, and a line for each bar by its conditions.
+// As in a sheet, a text of two pieces is made before it is padded.
 pub fn show<B: Bank>(heap: Global, x: &Examination<B>) -> Result<String, AllocError> {
     let wiring = x.wiring();
     let inputs = wiring.outer_inputs();

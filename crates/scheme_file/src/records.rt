@@ -1,4 +1,5 @@
-// Where a scheme file's bytes are read.
+// Where a scheme file's bytes are read. A place is given beside the file: a slice from there would lose where it lies, which
+// the definitions speak of.
 ghost use Rattle.std.specs.Prelude.{◌≡◌, ◌+◌, ◌*◌, ◌≤◌, length};
 ghost use Rattle.fddevs.specs.Bytes.{two_at};
 ghost use Rattle.scheme_file.specs.File.{phase_of, external_of, section_of, record_size, record_at, record_of};

@@ -27,7 +27,8 @@ where
     T::try_from(decimal_number(text.as_bytes())?).ok()
 }
 
-// What each word is read as, or what the first that is not read should have been.
+// What each word is read as, or what the first that is not read should have been. The heap is given beside the text: the
+// functions that need none, and their laws, have the text alone.
 fn list<'a, T: Drop, I: Iterator<Item = &'a str>, F: Fn(&str) -> Option<T>>(
     heap: Global,
     words: I,

@@ -1,5 +1,6 @@
 // The moves of a scheme on its row, in place. The row has 16 cells: the parts have the first of them, and the others
-// stay as they are.
+// stay as they are. A row is given beside its bank: many rows of one bank are made, loaded and stepped apart
+// from it.
 ghost use Rattle.std.specs.Prelude.{◌≡◌, ◌<◌, take};
 ghost use Rattle.fddevs.specs.declared.scheme.Move.TheVariants.{Outer, Internal, Delay};
 ghost use Rattle.fddevs.specs.Rows.{every, lasts};

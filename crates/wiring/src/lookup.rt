@@ -1,4 +1,5 @@
-// The look-ups of a wiring.
+// The look-ups of a wiring. A source is the first two bytes of a wire, given as they are: a part and its output, or outside
+// and an outer input.
 ghost use Rattle.std.specs.Prelude.{◌≡◌};
 ghost use Rattle.fddevs.specs.Scheme.{wired};
 ghost use Rattle.wiring.specs.Meaning.{wiring_of, no_wiring};

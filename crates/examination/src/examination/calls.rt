@@ -37,7 +37,8 @@ impl<B: Bank> Examination<B> {
         }
     }
 
-    // Takes the wiring of a file in place of the one before, and keeps the bars. The verdict becomes open.
+    // Takes the wiring of a file in place of the one before, and keeps the bars. The verdict becomes open. That the bank
+    // stays is said of this call and the next two, as it is what they promise.
     pub fn wire(&mut self, file: &[u8]) -> Result<(), Refusal>
         ensures answer { result ≡ answer_of (reading (B.Bank.family self.old.bank) file.now) }
         ensures state { held self.new ≡ after_wire (reading (B.Bank.family self.old.bank) file.now) (held self.old) }
