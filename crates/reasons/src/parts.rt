@@ -1,5 +1,5 @@
-// The first part of a row that has a phase which it does not have, or that does not last. A row is given beside its bank: many rows of one bank are made, loaded and stepped apart
-// from it.
+// The first part of a row that has a phase which it does not have, or that does not last. As everywhere, the row is given
+// beside its bank.
 ghost use Rattle.std.specs.Prelude.{◌≡◌, ◌<◌};
 ghost use Rattle.fddevs.specs.Vetting.{seek};
 ghost use Rattle.stepping.specs.RowBytes.{cells_of};
