@@ -1,4 +1,5 @@
 pub mod Words
+pub mod Bisection
 pub mod Inserted
 pub mod Places
 pub mod Puts

@@ -1,27 +1,12 @@
--- Among records that ascend there is one place where a record stands or belongs. Bisection finds it, as any search does.
-use Rattle.std.proofs.Common.{◌≡◌, ℕ, zero, suc, ◌+◌, ◌-◌, ◌<◌, ◌≤◌, cond, List, length, get_or, take, Ok, Err, Result, Ordering, Less, Equal, Greater, sym, refl, ap, ◌∙◌, subst, inl, inr, arith, le-ltb, lt-ltb}
-use Rattle.std.proofs.lemmas.List.{get_or_default, get_or-take, length-take-le}
-use Rattle.std.proofs.lemmas.List.Sorted.{searchable_from_sorted}
-use Rattle.std.proofs.lemmas.Bool.{cases_lt, cases_order}
-use Rattle.std.specs.Cmp.{IsTotalOrder, tied_back}
-use Rattle.std.specs.List.Sorted.{IsBinarySearchResult, IsSearchInRange}
-use Rattle.std.specs.Ordering.{is_lt, ordering_index, ordering_reverse, match_ordering as by_order}
+-- Among records that ascend, bisection finds where a record stands or belongs.
+use Rattle.std.proofs.Common.{◌≡◌, ℕ, zero, suc, ◌+◌, ◌-◌, ◌<◌, ◌≤◌, List, get_or, Ok, Err, Result, Ordering, Less, Equal, Greater, sym, refl, ap, ◌∙◌, subst, inl, inr, arith}
+use Rattle.std.proofs.lemmas.List.{get_or_default}
+use Rattle.std.proofs.lemmas.Bool.{cases_lt}
+use Rattle.std.specs.Cmp.{IsTotalOrder}
+use Rattle.std.specs.Ordering.{ordering_index, ordering_reverse, match_ordering as by_order}
 use Rattle.book.specs.Order.{Kept}
 use Rattle.book.specs.Place.{middle, halving, place}
-
-module _ {K : Type 0} (cmp : K → K → Ordering) (x : K) (xs : List K) where
-  -- what a turn of the bisection does, with further turns
-  abbrev turn : ℕ → ℕ → ℕ → Result ℕ ℕ
-  turn turns low high =
-      by_order (cmp (get_or xs (middle low high) x) x) (halving cmp x xs turns (middle low high + 1) high)
-      (Ok (middle low high)) (halving cmp x xs turns low (middle low high))
-
-  halves : (turns low high : ℕ) → low < high → halving cmp x xs (suc turns) low high ≡ turn turns low high
-  halves turns low high h = ap (λ b. cond b (turn turns low high) (Err low)) (lt-ltb low high h)
-
-  met : (turns low high : ℕ) → high ≤ low → halving cmp x xs turns low high ≡ Err low
-  met zero low high h = refl
-  met (suc turns) low high h = ap (λ b. cond b (turn turns low high) (Err low)) (le-ltb low high h)
+use Rattle.book.proofs.Bisection.{halves, met}
 
 pub above : {K : Type 0} {cmp : K → K → Ordering} → IsTotalOrder cmp → (y z : K) → cmp y z ≡ Less → cmp z y ≡ Greater
 above total y z h = total.antisymm z y ∙ ap ordering_reverse h
@@ -103,46 +88,3 @@ module _ {K : Type 0} {cmp : K → K → Ordering} (total : IsTotalOrder cmp) (x
   found =
       finds n 0 n (omega arith) (omega arith) (omega arith)
       record { lower = λ k d h. absurd (omega arith); higher = λ k d h u. absurd (omega arith) }
-
-  -- what the library's search answers
-  pub searched : (r : Result ℕ ℕ) → IsSearchInRange r (length (take n xs)) → IsBinarySearchResult (λ y. cmp y x) (take n xs) r → Found r
-  searched (Ok i) u h =
-      let w : i < n = omega (arith, length-take-le n xs kept.within) in
-      record { within = w; here = λ d. ap (λ y. cmp y x) (sym (get_or-take n xs i d w)) ∙ h d }
-  searched (Err i) u h =
-      let m = length-take-le n xs kept.within in
-      let at : (k : ℕ) (d : K) → k < n → cmp (get_or xs k d) x ≡ cmp (get_or (take n xs) k d) x = λ k d l. ap (λ y. cmp y x) (sym (get_or-take n xs k d l)) in
-      let p = h (searchable_from_sorted total (λ y. y) (take n xs) x
-      (λ k d _ l. ap is_lt ((λ j. cmp (get_or-take n xs (k + 1) d (omega arith) j) (get_or-take n xs k d (omega arith) j))
-      ∙ above total _ _ (kept.ascending k (k + 1) d (omega arith) (omega arith))))) in
-      record {
-        within = omega arith;
-        between = record {
-          lower = λ k d l. at k d (omega arith) ∙ p.0 k d (omega arith) l;
-          higher = λ k d l w. at k d w ∙ p.1 k d l (omega arith);
-        };
-      }
-
-  level : (i j : ℕ) → i < j → Stands cmp x xs n i → Stands cmp x xs n j → ⊥
-  level i j l a b =
-      let e = total.congr (get_or xs i x) x (get_or xs j x) (a.here x) ∙ tied_back total (get_or xs j x) x (b.here x) in
-      omega (arith, clash (kept.ascending i j x l b.within) e)
-
-  apart : (i j : ℕ) → Stands cmp x xs n i → Belongs cmp x xs n j → ⊥
-  apart i j a b =
-      elim (cases_lt i j) [
-        | inl l ↦ omega (arith, clash (a.here x) (b.between.lower i x l))
-        | inr l ↦ omega (arith, clash (a.here x) (b.between.higher i x l a.within))
-      ]
-
-  gap : (i j : ℕ) → i < j → Belongs cmp x xs n i → Belongs cmp x xs n j → ⊥
-  gap i j l a b = omega (arith, clash (b.between.lower i x l) (a.between.higher i x (omega arith) (omega (arith, b.within))))
-
-  -- there is one such place
-  pub one_place : (r s : Result ℕ ℕ) → Found r → Found s → r ≡ s
-  one_place (Ok i) (Ok j) a b =
-      elim (cases_order i j) [ inl e ↦ ap Ok e | inr (inl l) ↦ absurd (level i j l a b) | inr (inr l) ↦ absurd (level j i l b a) ]
-  one_place (Ok i) (Err j) a b = absurd (apart i j a b)
-  one_place (Err i) (Ok j) a b = absurd (apart j i b a)
-  one_place (Err i) (Err j) a b =
-      elim (cases_order i j) [ inl e ↦ ap Err e | inr (inl l) ↦ absurd (gap i j l a b) | inr (inr l) ↦ absurd (gap j i l b a) ]

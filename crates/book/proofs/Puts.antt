@@ -1,5 +1,5 @@
 -- Putting a record into a list that is kept: what is answered and left, that the list is kept again, and that it is right.
-use Rattle.std.proofs.Common.{◌≡◌, ℕ, ◌+◌, ◌-◌, ◌<◌, ◌≤◌, Bool, ltb, ◌⊎◌, List, ◌++◌, length, get_or, take, drop, Ok, Err, Result, Ordering, Less, Equal, sym, refl, ap, ◌∙◌, subst, inl, inr, arith, length-append, le-ltb, lt-ltb}
+use Rattle.std.proofs.Common.{◌≡◌, ℕ, ◌+◌, ◌-◌, ◌<◌, ◌≤◌, min, Bool, ltb, ◌⊎◌, List, ◌++◌, length, get_or, take, drop, Ok, Err, Result, Ordering, Less, Equal, sym, refl, ap, ◌∙◌, subst, inl, inr, arith, length-append, le-ltb, lt-ltb}
 use Rattle.std.specs.List.{insert, ContainsAt as Has}
 use Rattle.std.proofs.lemmas.List.{get_or-take, length-take-le, get_or_append_left, take_at, drop_at}
 use Rattle.std.proofs.lemmas.List.Edits.{length-insert, get_or-insert_below, get_or-insert_at, get_or-insert_above}
@@ -8,7 +8,7 @@ use Rattle.fddevs.specs.declared.refusal.Refusal.TheVariants.{NoRoom}
 use Rattle.book.specs.declared.keeping.Put.TheVariants.{Added, Present}
 use Rattle.book.specs.Order.{TotalOrder, Ascending, Kept}
 use Rattle.book.specs.Place.{place}
-use Rattle.book.specs.Putting.{answer_at, list_at, count_after, PutsRight}
+use Rattle.book.specs.Putting.{Answer, answer_at, list_at, answer, list_after, count_after, Puts, PutsRight}
 use Rattle.std.specs.Cmp.{IsTotalOrder}
 use Rattle.book.proofs.Places.{below, clash, Stands, Belongs, Found, found}
 
@@ -111,7 +111,7 @@ module _ {K : Type 0} {cmp : K → K → Ordering} (total : IsTotalOrder cmp) (x
       subst (λ zs. Kept cmp zs (n + 1)) (sym is) (kept_whole i (subst (Found total x xs n kept) (sym e) (found total x xs n kept)) free)
 
 -- a total order, in the library's words
-in_std : {K : Type 0} {cmp : K → K → Ordering} → TotalOrder cmp → IsTotalOrder cmp
+pub in_std : {K : Type 0} {cmp : K → K → Ordering} → TotalOrder cmp → IsTotalOrder cmp
 in_std {K} {cmp} total = record {
   antisymm = total.turned;
   trans = total.passes;
@@ -191,3 +191,14 @@ module _ {K : Type 0} {cmp : K → K → Ordering} (total : TotalOrder cmp) (x :
   -- by the place that was found, and whether an entry is free
   pub right_at : (p : Result ℕ ℕ) → p ≡ place cmp x xs n → (free : Bool) → ltb n (length xs) ≡ free → Right p free
   right_at p e free f = subst (Right p) f (by_place p (subst (Found order x xs n kept) (sym e) (found order x xs n kept)))
+
+  defined_right : PutsRight cmp x xs n (answer cmp x xs n) (list_after cmp x xs n) (count_after (answer cmp x xs n) n)
+  defined_right =
+      let e : n ≡ min n (length xs) = omega (arith, kept.within) in
+      subst (λ m. Right (place cmp x xs m) (ltb n (length xs))) e (by_place (place cmp x xs n) (found order x xs n kept))
+
+  pub puts_right : (r : Answer) (ys : List K) (m : ℕ) → Puts cmp x xs n r ys m → PutsRight cmp x xs n r ys m
+  puts_right r ys m p =
+      subst (λ k. PutsRight cmp x xs n r ys k) (sym p.counted)
+      (subst (λ zs. PutsRight cmp x xs n r zs (count_after r n)) (sym p.listed)
+      (subst (λ a. PutsRight cmp x xs n a (list_after cmp x xs n) (count_after a n)) (sym p.answered) defined_right))

@@ -1,18 +1,17 @@
+ghost use Rattle.std.specs.Prelude.{◌≡◌};
+ghost use Rattle.std.specs.declared.cmp.Ordering.{Ordering as Rank};
 ghost use Rattle.book.specs.Order.{TotalOrder};
-ghost use Rattle.book.specs.Orders.{row_total, stimulus_total};
 
-use crate::row::Row;
-use crate::stimulus::Stimulus;
+use std::cmp::Ordering;
 
-// What a book can keep: values in a total order that tells any two of them apart.
-pub trait Record: Ord + Copy {
-    ghost total: { TotalOrder Self.cmp };
-}
+// What a book can keep: values in a total order that tells any two of them apart. The order is the record's own and not
+// its `Ord`, so that a type may have none, or another. A book is proved against the order alone.
+pub trait Record: Copy {
+    ghost order: { Self → Self → Rank };
 
-impl Record for Row {
-    ghost total = { row_total };
-}
+    // Whether this record stands below, at or above the other.
+    fn compare(&self, other: &Self) -> Ordering
+        ensures { result ≡ order self.now other.now };
 
-impl Record for Stimulus {
-    ghost total = { stimulus_total };
+    ghost total: { TotalOrder order };
 }

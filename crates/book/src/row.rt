@@ -1,8 +1,11 @@
 ghost use Rattle.std.specs.Prelude.{◌≡◌};
 ghost use Rattle.std.specs.Ordering.{is_lt};
-ghost use Rattle.book.specs.Records.{byte_order};
+ghost use Rattle.book.specs.Records.{byte_order, row_order};
+ghost use Rattle.book.specs.Orders.{row_total};
 
 use crate::bytes::compare;
+use crate::record::Record;
+use std::cmp::Ordering;
 
 // A row as bytes: 16 parts of three bytes each, the phase and then the remaining ticks, high byte first.
 // Rows are ordered as bytes.
@@ -21,4 +24,15 @@ pub fn below(one: &[u8], other: &[u8]) -> bool
     ensures { result ≡ is_lt (byte_order one.now other.now) }
 {
     compare(one, other).is_lt()
+}
+
+// Rows are ordered as bytes, compared eight at a time: the derived order is the same and takes twice as long.
+impl Record for Row {
+    ghost order = { row_order };
+
+    ghost total = { row_total };
+
+    fn compare(&self, other: &Row) -> Ordering {
+        compare(&self.bytes, &other.bytes)
+    }
 }

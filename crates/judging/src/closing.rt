@@ -60,7 +60,9 @@ impl<B: Bank> Members<'_, B> {
         }
     }
 
-    // Whether a step is not allowed, or leads to one of the rows.
+    // Whether a step is not allowed, or leads to one of the rows. It is what a set is judged by, for each step from each row:
+    // called and not inlined, it is a tenth of the time.
+    #[inline(always)]
     fn keeps(&self, row: &Row, a: Move, hint: &mut usize) -> bool
         ensures { result ≡ stays (scheme (B.Bank.family self.now.scheme.bank.now) (wiring_of self.now.scheme.wiring.now)) (rows_in (B.Bank.family self.now.scheme.bank.now).count self.now.rows.body.now) (take (B.Bank.family self.now.scheme.bank.now).count (cells_of row.now.bytes)) a }
     {

@@ -7,10 +7,13 @@ use reasons::holding::holding;
 use reasons::walking::walk_to;
 use report::rows::Cells;
 use report::show::Conditions;
-use set_file::layout::{Head, width};
+use set_file::layout::width;
 use std::alloc::{AllocError, Global};
 
-// The body is what follows the head of a whole file: of another, no row and no step is told.
+// How many bytes the head of a proof file has.
+const HEAD: usize = 6;
+
+// The body is what follows the head of the file, whether or not it has the length that the head says.
 #[derive(Drop)]
 pub(crate) struct Offer<'a, B: Bank> {
     pub heap: Global,
@@ -20,10 +23,7 @@ pub(crate) struct Offer<'a, B: Bank> {
 
 impl<'a, B: Bank> Offer<'a, B> {
     pub fn new(heap: Global, x: &'a Examination<B>, file: &'a [u8]) -> Self {
-        let body: &[u8] = match Head::read(file) {
-            Some(head) => head.body,
-            None => &[],
-        };
+        let body = file.get(HEAD..).unwrap_or(&[]);
         Offer { heap, x, body }
     }
 

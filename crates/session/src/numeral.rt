@@ -16,7 +16,7 @@ pub fn decimal_number(text: &[u8]) -> Option<u64>
     if text.is_empty() {
         return None;
     }
-    text.iter().fold(Some(0), |value, b| append(value?, *b))
+    text.iter().try_fold(0, |value, b| append(value, *b))
 }
 
 // The value of a hexadecimal digit, in either case.

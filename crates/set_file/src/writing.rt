@@ -7,7 +7,7 @@ ghost use Rattle.set_file.specs.Layout.{head, front};
 ghost use Rattle.set_file.specs.Writing.{Whole, size_vetting, clean, clean_at, rises, write_vetting, written, left, ReadBack};
 
 use crate::layout::{KIND, VERSION, body_fits, some_parts, width};
-use book::row::Row;
+use book::row::{Row, below};
 use fddevs::refusal::{Layer, Refusal};
 
 // Whether an output of `size` bytes has room for a file of `count` rows.
@@ -61,7 +61,7 @@ fn rises(rows: &[Row], k: usize) -> bool
     requires { (1 ≤ k) × (k < length rows.now) }
     ensures { result ≡ rises rows.now k }
 {
-    rows[k - 1] < rows[k]
+    below(&rows[k - 1].bytes, &rows[k].bytes)
 }
 
 // The first row that is not above the one before it: of records, where `Rows` knows it of bytes.

@@ -1,7 +1,6 @@
 pub mod Orders
 pub mod Apart
 pub mod Kept
-pub mod Filled
 pub mod Laid
 pub mod Accepted
 pub mod Refused

@@ -1,5 +1,5 @@
 -- The order of wires.
-use Rattle.std.proofs.Common.{◌≡◌, ℕ, zero, suc, ◌+◌, ◌-◌, ◌<◌, ◌≤◌, Bool, true, false, cond, eqb, List, [], ◌∷◌, ◌++◌, length, take, drop, Some, None, Option, Bor, filter, sym, refl, ap, ◌∙◌, subst, ⊎_elim, sub-one, arith}
+use Rattle.std.proofs.Common.{◌≡◌, ℕ, zero, suc, ◌+◌, ◌-◌, ◌<◌, ◌≤◌, Bool, true, false, cond, eqb, List, [], ◌∷◌, ◌++◌, length, take, drop, Some, None, Option, Bor, filter, sym, refl, ap, ◌∙◌, subst, ⊎_elim, inl, inr, sub-one, arith}
 use Rattle.std.specs.List.{find}
 use Rattle.std.specs.List.Sorted.{IsPartitionPoint, IsPartitionedBy}
 use Rattle.std.specs.Option.{option_map}
@@ -129,6 +129,23 @@ module _ (ws : List Wire) (s o low high : ℕ) (a : Splits ws s o low) (b : Spli
       let two : filter p (drop low ws) ≡ filter p middle ++ filter p end =
       ap (filter p) (sym (take-append-drop (high - low) (drop low ws))) ∙ filter-append p middle end in
       sym (one ∙ two ∙ ap (λ z. filter p middle ++ z) rest ∙ append-nil _ ∙ between)
+
+-- behind those from below an output, the wires that come from below the next one are counted by a scan
+module _ (ws : List Wire) (up : ascends ws ≡ true) (s o low count : ℕ) (a : Splits ws s o low)
+    (on : (k : ℕ) → k < count → comes_below s (o + 1) (nth ws (low + k)) ≡ true)
+    (off : low + count < length ws → comes_below s (o + 1) (nth ws (low + count)) ≡ false) where
+  pub scanned : low + count ≤ length ws → Splits ws s (o + 1) (low + count)
+  scanned fits = record {
+    bound = fits;
+    front = λ k l. elim (cases_lt k low) [
+      | inl h ↦ below_next s o (nth ws k) (a.front k h)
+      | inr h ↦ (let e : low + (k - low) ≡ k = omega arith in subst (λ j. comes_below s (o + 1) (nth ws j) ≡ true) e (on (k - low) (omega arith)))
+    ];
+    back = λ k l m.
+        ⊎_elim
+        (λ y. absurd (both_ways _ (off (omega arith)) (below_down ws up s (o + 1) k (low + count) l m y)))
+        (λ y. y) (cases_Bool (comes_below s (o + 1) (nth ws k)));
+  }
 
 -- the wires from the source are the only ones that can lead from it
 pub wired_from : (s o t : ℕ) (ws : List Wire) → input_to (from_source ws s o) t ≡ wired ws s o t

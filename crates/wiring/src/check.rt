@@ -97,7 +97,7 @@ impl<B: Bank> Draft<'_, B> {
         requires { k < length self.now.wires.now }
         ensures { result ≡ in_order self.now.wires.now k }
     {
-        k == 0 || self.wires[k - 1] < self.wires[k]
+        k == 0 || self.wires[k - 1].cmp(&self.wires[k]).is_lt()
     }
 
     // In ascending wires, those with one start stand side by side.

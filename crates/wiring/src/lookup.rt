@@ -1,6 +1,6 @@
 // The look-ups of a wiring. A source is the first two bytes of a wire, given as they are: a part and its output, or outside
 // and an outer input.
-ghost use Rattle.std.specs.Prelude.{◌≡◌};
+ghost use Rattle.std.specs.Prelude.{◌≡◌, ◌+◌};
 ghost use Rattle.fddevs.specs.Scheme.{wired};
 ghost use Rattle.wiring.specs.Meaning.{wiring_of, no_wiring};
 ghost use Rattle.wiring.specs.Wires.{comes_below, from_source, input_to, Splits};
@@ -11,7 +11,7 @@ use fddevs::scheme::Wire;
 fn is_below(wire: Wire, source: u8, output: u16) -> bool
     ensures { result ≡ comes_below source output wire }
 {
-    (wire.source, u16::from(wire.output)) < (source, output)
+    wire.source < source || wire.source == source && u16::from(wire.output) < output
 }
 
 // Where the first of the wires that leads to the target ends.
@@ -62,14 +62,26 @@ impl Wiring {
             .partition_point(|wire| is_below(*wire, source, output))
     }
 
+    // How many wires come from an output where so many as `low` come from below it. They are few and stand together, so they
+    // are counted by a scan.
+    fn count_from(&self, low: usize, source: u8, output: u8) -> usize
+        requires { Splits (wiring_of self.now).wires source output low }
+        ensures { Splits (wiring_of self.now).wires source (output + 1) (low + result) }
+    {
+        let next = u16::from(output) + 1;
+        let rest = &self.wires()[low..];
+        rest.iter()
+            .position(|wire| !is_below(*wire, source, next))
+            .unwrap_or(rest.len())
+    }
+
     // The wires from an output of a part, or of an outer input where the source is outside. They stand together.
     pub fn from_source(&self, source: u8, output: u8) -> &[Wire]
         ensures { result.now ≡ from_source (wiring_of self.now).wires source output }
     {
-        let output = u16::from(output);
-        let low = self.count_below(source, output);
-        let high = self.count_below(source, output + 1);
-        &self.wires()[low..high]
+        let low = self.count_below(source, u16::from(output));
+        let count = self.count_from(low, source, output);
+        &self.wires()[low..low + count]
     }
 
     // The input of the target that is wired to an output of the source.

@@ -8,7 +8,6 @@ use crate::wires::{NO_WIRE, OuterCounts, Wiring};
 use bank::interface::Bank;
 use fddevs::refusal::Refusal;
 use fddevs::scheme::Wire;
-use std::array;
 
 // The wire whose bytes begin at `at`.
 fn wire(file: &[u8], at: usize) -> Wire
@@ -23,22 +22,16 @@ fn wire(file: &[u8], at: usize) -> Wire
     }
 }
 
-// Wire k of the file, or what fills the table behind its wires.
-fn nth_wire(file: &[u8], k: usize) -> Wire
-    ensures { k < wire_count file.now → result ≡ wire_at file.now (5 + 4 * k) }
-{
-    if k < wire_count(file) {
-        wire(file, 5 + 4 * k)
-    } else {
-        NO_WIRE
-    }
-}
-
+// The loop fills the places of the wires alone: `from_fn` would ask for each of the 256.
 fn table(file: &[u8]) -> [Wire; 256]
     requires { wire_count file.now ≤ 256 }
     ensures { take (wire_count file.now) result ≡ (held file.now).wires }
 {
-    array::from_fn(|k| nth_wire(file, k))
+    let mut table = [NO_WIRE; 256];
+    for k in 0..wire_count(file) {
+        table[k] = wire(file, 5 + 4 * k);
+    }
+    table
 }
 
 // The wiring that a file gives for a bank, or the refusal with the smallest number that holds.
