@@ -56,7 +56,7 @@ fn first_unclean(width: usize, rows: &[Row]) -> Option<usize>
     rows.iter().position(|row| !clean(width, row))
 }
 
-// Whether row k is above the one before it.
+// Whether row k is above the one before it, compared eight bytes at a time.
 fn rises(rows: &[Row], k: usize) -> bool
     requires { (1 ≤ k) × (k < length rows.now) }
     ensures { result ≡ rises rows.now k }

@@ -93,6 +93,7 @@ pub(crate) struct Draft<'a, B> {
 
 // A test of wire k asks that there is one: a type for such numbers would be made at each call from the same fact.
 impl<B: Bank> Draft<'_, B> {
+    // Wires are asked for their order by `cmp`, which takes less time than the derived `<`.
     fn is_in_order(&self, k: usize) -> bool
         requires { k < length self.now.wires.now }
         ensures { result ≡ in_order self.now.wires.now k }
